@@ -1,0 +1,5 @@
+use Rattle.recipe.specs.Numbering.{NoneBelow}
+use Rattle.recipe.proofs.numbering.leaf_number.Given as given
+
+abbrev pub Inv-loop-i : given.InvT-loop-i
+Inv-loop-i g l = NoneBelow (g .L·Leaf .equates) (l .leaves) (l .leaf) (l .i)

@@ -1,0 +1,23 @@
+use mathlib.Core.Path.{_≡_, sym, ap, _∙_}
+use mathlib.Core.Logic.{⊎-elim}
+use Prim.Native.Nat.{ℕ}
+use native.Mathlib.Omega.{arith}
+use lib.Dec.{leb}
+use lib.ListN.{length, getD}
+use Rattle.std.proofs.shelf.Lists.{getD-past}
+use Rattle.std.proofs.shelf.Tests.{cases-lt, cond-true, le-leb}
+use Rattle.std.specs.declared.option.Option.the-variants.{Some}
+use Rattle.recipe.specs.Packing.{packed}
+use Rattle.recipe.proofs.packing.pack.Needs as need
+
+-- the word holds the bytes, and zeros where there is none
+same-bytes : (c : need.After-from-be-bytes) (k : ℕ) → getD (c .loop-i .word) k 0 ≡ getD (c .args .bytes .now) k 0
+same-bytes c k =
+    ⊎-elim (c .loop-i .inv .1 k) (λ h. c .loop-i .inv .2 k h ∙ sym (getD-past (c .args .bytes .now) k 0 (omega arith))) (cases-lt k (c .loop-i .i))
+
+pub returns : need.returns
+unfolding packed
+returns c =
+    let s = same-bytes c in
+    let is : c .from-be-bytes .result ≡ packed (c .args .bytes .now) = omega (arith, c .from-be-bytes .ensures, s 0, s 1, s 2, s 3, s 4, s 5, s 6, s 7) in
+    ap Some is ∙ sym (cond-true _ _ _ (le-leb (length (c .args .bytes .now)) 8 (omega arith)))
