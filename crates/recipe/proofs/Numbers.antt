@@ -2,7 +2,7 @@
 use mathlib.Core.Path.{_≡_, refl, sym, ap, _∙_}
 use mathlib.Core.Bool.{Bool, true, false, cond}
 use mathlib.Core.List.{List, [], _∷_}
-use mathlib.Core.Logic.{_⊎_, inl, inr}
+use mathlib.Core.Logic.{_↔_, inl, inr}
 use Prim.Native.Nat.{ℕ, zero, suc, _<_}
 use native.Mathlib.Omega.{arith}
 use lib.ListN.{length, getD}
@@ -68,12 +68,14 @@ module _ {L : Type 0} (same : L → L → Bool) where
         let there : same (getD xs i x) z ≡ true = ap (λ y. same y z) (getD-default xs i x z (low .0)) ∙ rw at (also .1) in
         laws .transitive x (getD xs i x) z (laws .symmetric (getD xs i x) x (low .1)) there
 
+    -- a leaf with a number has it in common with the leaves that are the same
+    pub number-tells : (xs : List L) (x z : L) → isSome (numberOf same xs x) ≡ true → (numberOf same xs x ≡ numberOf same xs z) ↔ (same x z ≡ true)
+    number-tells xs x z has = (joined xs x z _ _ (number-lowest xs x) (number-lowest xs z) has, one-number xs x z)
+
     pub numbers-tell : (xs : List L) → NumbersTell same xs
     numbers-tell xs j k d hj hk =
         let x = getD xs j d in
-        let z = getD xs k d in
-        let has = listed xs x (numberOf same xs x) (number-lowest xs x) j hj (getD-default xs j x d hj) in
-        (joined xs x z _ _ (number-lowest xs x) (number-lowest xs z) has, one-number xs x z)
+        number-tells xs x (getD xs k d) (listed xs x (numberOf same xs x) (number-lowest xs x) j hj (getD-default xs j x d hj))
 
     pub numbered : (xs : List L) (x : L) (r : Option ℕ) → Lowest same xs x r → Numbered same xs x r
     numbered xs x r low = record {

@@ -1,13 +1,15 @@
-use native.Mathlib.Omega.{arith}
-use Rattle.std.proofs.shelf.Ways.{tells}
-use Rattle.leaves.proofs.CrossProducts.{cross-trans}
+use Rattle.leaves.proofs.CrossProducts.{rate-reflexive, rate-symmetric, rate-transitive}
 use Rattle.leaves.proofs.Rates.{rate-bounded}
 use Rattle.leaves.proofs.rate.RateLeaf.the-impl.Needs as need
 
+pub reflexive-law : need.reflexive-law
+reflexive-law = rate-reflexive
+
+pub symmetric-law : need.symmetric-law
+symmetric-law = rate-symmetric
+
 pub transitive-law : need.transitive-law
-transitive-law x y z left right =
-    let t = cross-trans (x .numerator) (x .denominator) (y .numerator) (y .denominator) (z .numerator) (z .denominator) in
-    grind (arith, tells, t)
+transitive-law = rate-transitive
 
 pub bounded-law : need.bounded-law
-bounded-law word h = rate-bounded word h
+bounded-law = rate-bounded

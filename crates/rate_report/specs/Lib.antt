@@ -1,0 +1,3 @@
+pub mod Limit
+pub mod Report
+pub mod Words
