@@ -15,7 +15,7 @@ use Rattle.std.specs.declared.option.Option.the-variants.{Some}
 use Rattle.recipe.specs.Packing.{packed, packedWithin, Spelling}
 use Rattle.recipe.proofs.PackedOnce.{packed-once}
 use Rattle.leaves.specs.Bytes.{every}
-use Rattle.leaves.specs.Symbols.{nameByte, isName, symbolOf, OnlyWord}
+use Rattle.leaves.specs.Symbols.{nameByte, isTail, isName, symbolOf, OnlyWord}
 use Rattle.leaves.specs.declared.symbol.Symbol.{Symbol}
 use Rattle.leaves.proofs.Chosen.{chosen-some}
 use Rattle.leaves.proofs.Every.{every-at}
@@ -33,9 +33,9 @@ lower-byte b e = grind (arith, tells)
 pub name-spelling : (bs : List ℕ) → isName bs ≡ true → Spelling bs
 name-spelling [] e = absurd (both-ways false refl e)
 name-spelling (b ∷ bs) e =
-    let parts = and-parts (asciiLower b && leb (length bs) 7) (every nameByte bs) e in
-    let start = and-parts (asciiLower b) (leb (length bs) 7) (parts .0) in
-    record { short = omega (arith, leb-true (length bs) 7 (start .1)); bytes = at (start .0) (parts .1) }
+    let parts = and-parts (asciiLower b) (isTail bs) e in
+    let tail = and-parts (leb (length bs) 7) (every nameByte bs) (parts .1) in
+    record { short = omega (arith, leb-true (length bs) 7 (tail .0)); bytes = at (parts .0) (tail .1) }
   where
     at : asciiLower b ≡ true → every nameByte bs ≡ true → (k : ℕ) → k < length (b ∷ bs) → (0 < getD (b ∷ bs) k 0) × (getD (b ∷ bs) k 0 < 256)
     at first rest zero h = lower-byte b first

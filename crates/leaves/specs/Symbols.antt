@@ -16,10 +16,14 @@ use Rattle.leaves.specs.declared.symbol.Symbol.{Symbol}
 abbrev pub nameByte : ℕ → Bool
 nameByte b = asciiLower b || asciiDigit b || eqb b 45
 
+-- up to seven such bytes
+abbrev pub isTail : List ℕ → Bool
+isTail bs = leb (length bs) 7 && every nameByte bs
+
 -- a lower-case letter and up to seven such bytes
 abbrev pub isName : List ℕ → Bool
 isName [] = false
-isName (b ∷ bs) = asciiLower b && leb (length bs) 7 && every nameByte bs
+isName (b ∷ bs) = asciiLower b && isTail bs
 
 -- an apostrophe and a name spell the symbol that packs the name; nothing else spells one
 abbrev pub symbolOf : List ℕ → Option Symbol

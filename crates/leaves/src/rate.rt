@@ -25,9 +25,9 @@ fn leading_digits(word: &[u8]) -> usize
     word.len()
 }
 
-// The number that one to `most` decimal digits write.
+// The number that one to `most` decimal digits write, of which 18 always fit.
 fn numeral(digits: &[u8], most: usize) -> Option<u64>
-    requires { ⌜ most ≤ 10 ⌝ }
+    requires { ⌜ most ≤ 18 ⌝ }
     ensures { λ r. ⌜ r ≡ numeralOf most (now (digits .entry)) ⌝ }
 {
     if digits.len() < 1 || digits.len() > most {

@@ -1,8 +1,7 @@
 // Symbols: an apostrophe and a short name.
 ghost use mathlib.Core.Path.{_≡_};
-ghost use lib.Dec.{eqb};
 ghost use Rattle.leaves.specs.Bytes.{every};
-ghost use Rattle.leaves.specs.Symbols.{symbolOf, sameSymbol, nameByte, isName, OnlyWord};
+ghost use Rattle.leaves.specs.Symbols.{symbolOf, sameSymbol, nameByte, isTail, isName, OnlyWord};
 use recipe::Leaf;
 use recipe::pack;
 
@@ -31,12 +30,19 @@ fn are_name_bytes(bytes: &[u8]) -> bool
     true
 }
 
+// Whether the bytes are up to seven that may follow the first one of a name.
+fn is_tail(bytes: &[u8]) -> bool
+    ensures { λ r. ⌜ r ≡ isTail (now (bytes .entry)) ⌝ }
+{
+    bytes.len() <= 7 && are_name_bytes(bytes)
+}
+
 // Whether the bytes are a lower-case letter and up to seven lower-case letters, digits or hyphens.
 fn is_name(bytes: &[u8]) -> bool
     ensures { λ r. ⌜ r ≡ isName (now (bytes .entry)) ⌝ }
 {
     match bytes {
-        [first, rest @ ..] => first.is_ascii_lowercase() && rest.len() <= 7 && are_name_bytes(rest),
+        [first, tail @ ..] => first.is_ascii_lowercase() && is_tail(tail),
         [] => false,
     }
 }

@@ -17,7 +17,7 @@ use Rattle.leaves.specs.Rates.{rateOf, sameRate}
 use Rattle.leaves.specs.declared.rate.Rate.{Rate}
 use Rattle.leaves.proofs.CrossProducts.{rate-sameness}
 use Rattle.rate_report.specs.Limit.{kept}
-use Rattle.rate_report.specs.Report.{ratesOf, numberIn, lines, warning, summary, reportOf, wordNumber, NumbersTell}
+use Rattle.rate_report.specs.Report.{ratesOf, numberIn, lines, warning, summary, reportOf, wordNumber, WordsTell}
 use Rattle.rate_report.specs.Words.{words}
 
 pub assembled : (limit : ℕ) (input text : List ℕ) (count : ℕ) (rates again : List Rate) {a b c d : List ℕ} → text ≡ kept limit input → rates ≡ ratesOf (words text) → again ≡ ratesOf (words text) → count ≡ length (words text) → a ≡ [] → b ≡ a ++ lines rates 0 (words text) → c ≡ b ++ warning limit input → d ≡ c ++ summary count again → d ≡ reportOf limit input
@@ -55,7 +55,7 @@ has-number ws k x h e =
     let at = spelled-listed ws k x h e in
     listed sameRate rate-sameness (ratesOf ws) x (numberOf sameRate (ratesOf ws) x) (number-lowest sameRate (ratesOf ws) x) (at .0) (at .1) (at .2)
 
-pub words-tell : (ws : List (List ℕ)) → NumbersTell ws
+pub words-tell : (ws : List (List ℕ)) → WordsTell ws
 words-tell ws = record {
   rates = λ k h. known k h (rateOf (getD ws k [])) refl;
   same = λ j k x y hj hk d e.

@@ -68,7 +68,7 @@ abbrev pub wordNumber : List (List ℕ) → ℕ → Option ℕ
 wordNumber ws k = numberIn (ratesOf ws) (rateOf (getD ws k []))
 
 -- what the numbers of words tell: a word has one exactly when it spells a rate, and two words that spell rates have one number exactly when the rates are the same
-pub record NumbersTell (ws : List (List ℕ)) : Type 0 where
+pub record WordsTell (ws : List (List ℕ)) : Type 0 where
   pub rates : (k : ℕ) → k < length ws → isSome (wordNumber ws k) ≡ isSome (rateOf (getD ws k []))
   pub same : (j k : ℕ) (x y : Rate) → j < length ws → k < length ws → rateOf (getD ws j []) ≡ Some x → rateOf (getD ws k []) ≡ Some y → (wordNumber ws j ≡ wordNumber ws k) ↔ (sameRate x y ≡ true)
 
@@ -76,4 +76,4 @@ pub record NumbersTell (ws : List (List ℕ)) : Type 0 where
 pub record Reports (limit : ℕ) (input out : List ℕ) : Type 0 where
   pub bytes : out ≡ reportOf limit input
   pub first : FirstWords limit input
-  pub tell : NumbersTell (words (kept limit input))
+  pub tell : WordsTell (words (kept limit input))

@@ -1,6 +1,8 @@
 // Which rates of a text are the same, as a report that a person can read.
 mod limit;
 mod report;
+#[cfg(test)]
+mod tests;
 mod words;
 
 pub use report::LIMIT;

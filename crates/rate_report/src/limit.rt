@@ -18,7 +18,7 @@ fn word_start(text: &[u8], mut end: usize) -> usize
 }
 
 // The whole words of the first `limit` bytes, or all of the input where it is no longer.
-pub fn kept(input: &[u8], limit: usize) -> &[u8]
+pub(crate) fn kept(input: &[u8], limit: usize) -> &[u8]
     ensures { λ r. ⌜ now r ≡ keptOf limit (now (input .entry)) ⌝ }
 {
     if input.len() <= limit {

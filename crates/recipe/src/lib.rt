@@ -2,6 +2,8 @@
 mod leaf;
 mod numbering;
 mod packing;
+#[cfg(test)]
+mod tests;
 
 pub use leaf::Leaf;
 pub use numbering::leaf_number;

@@ -21,13 +21,13 @@ returns-then-not-is-ascii-digit c =
     let fails = every-fails asciiDigit digits (c .loop-digit .digit-index) (c .loop-digit-test .taken) (sym (c .if-not-is-ascii-digit .ensures tt .value)) in
     sym (cond-false _ _ _ (and-right _ _ (sym (c .loop-digit .inv .2) ∙ fails)))
 
--- at most nine digits stand before the last
-small : (c : Else-not-is-ascii-digit) → c .loop-digit .value < 10 ^ 9
+-- at most 17 digits stand before the last
+small : (c : Else-not-is-ascii-digit) → c .loop-digit .value < 10 ^ 17
 small c =
     let digits = c .args .digits .now in
     let i = c .loop-digit .digit-index in
-    let short : length (take i digits) ≤ 9 = simp length-take (omega (arith, c .pre, c .if-digits-most .left, c .loop-digit-test .taken)) in
-    omega (arith, value-fits 9 (take i digits) (c .loop-digit .inv .1) short, c .loop-digit .inv .0)
+    let short : length (take i digits) ≤ 17 = simp length-take (omega (arith, c .pre, c .if-digits-most .left, c .loop-digit-test .taken)) in
+    omega (arith, value-fits 17 (take i digits) (c .loop-digit .inv .1) short, c .loop-digit .inv .0)
 
 pub mul-value : need.mul-value
 mul-value c = omega (arith, small c)
