@@ -1,6 +1,6 @@
 -- Equal cross products make a sameness of rates. Assumes nothing.
 use mathlib.Core.Bool.{true}
-use mathlib.Core.Path.{_≡_, sym, ap, _∙_}
+use mathlib.Core.Path.{_≡_, ap, _∙_}
 use Prim.Native.Nat.{ℕ, _*_, _<_}
 use native.Mathlib.Nat.{eq-of-mul-eq-mul-right, mul-right-comm}
 use native.Mathlib.Omega.{arith}

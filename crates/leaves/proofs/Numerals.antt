@@ -1,5 +1,5 @@
 -- What decimal digits write. Assumes nothing.
-use mathlib.Core.Path.{_≡_, refl, sym, ap, _∙_}
+use mathlib.Core.Path.{_≡_, refl, sym, _∙_}
 use mathlib.Core.Bool.{true, _&&_}
 use mathlib.Core.List.{List, [], _∷_, _++_}
 use Prim.Native.Nat.{ℕ, _+_, _-_, _*_, _^_, _<_, _≤_}
@@ -14,7 +14,8 @@ use Rattle.std.specs.Reads.{value, valueAfter, Digits}
 use Rattle.std.specs.Text.{asciiDigit, digitValue}
 use Rattle.std.specs.declared.option.Option.the-variants.{Some}
 use Rattle.leaves.specs.Bytes.{every}
-use Rattle.leaves.specs.Rates.{Numeral, numeral, numeralOf}
+use Rattle.leaves.specs.RateReading.{numeral, numeralOf}
+use Rattle.leaves.specs.Rates.{Numeral}
 use Rattle.leaves.proofs.Chosen.{chosen-some}
 
 pub digit-value : (b : ℕ) → asciiDigit b ≡ true → (digitValue b ≡ b - 48) × (digitValue b < 10)

@@ -15,7 +15,8 @@ use Rattle.std.specs.declared.option.Option.{Option}
 use Rattle.std.specs.declared.option.Option.the-variants.{None, Some}
 use Rattle.std.specs.shelf.Lists.{leading}
 use Rattle.leaves.specs.Bytes.{every}
-use Rattle.leaves.specs.Rates.{Numeral, Form, whole, fraction, decimal, Spells, SpelledBy, numeral, ratio, fractionRate, decimalRate, rateAfter, rateOf}
+use Rattle.leaves.specs.RateReading.{numeral, ratio, fractionRate, decimalRate, rateAfter, rateOf}
+use Rattle.leaves.specs.Rates.{Form, whole, fraction, decimal, Spells, SpelledBy}
 use Rattle.leaves.specs.declared.rate.Rate.{Rate}
 use Rattle.leaves.proofs.Chosen.{chosen, chosen-some, none-unless}
 use Rattle.leaves.proofs.Numerals.{numeral-parts, numeral-from}

@@ -1,3 +1,4 @@
 pub mod Bytes
+pub mod RateReading
 pub mod Rates
 pub mod Symbols

@@ -3,7 +3,8 @@ ghost use mathlib.Core.Path.{_≡_};
 ghost use Prim.Native.Nat.{_≤_};
 ghost use Rattle.std.specs.Text.{asciiDigit};
 ghost use Rattle.std.specs.shelf.Lists.{leading};
-ghost use Rattle.leaves.specs.Rates.{numeralOf, ratio as ratioOf, wholeRate, fractionRate, decimalRate, rateAfter, rateOf, SpelledBy, sameRate};
+ghost use Rattle.leaves.specs.RateReading.{numeralOf, ratio as ratioOf, wholeRate, fractionRate, decimalRate, rateAfter, rateOf};
+ghost use Rattle.leaves.specs.Rates.{SpelledBy, sameRate};
 use recipe::Leaf;
 
 // A numerator over a denominator, as spelled: `==` compares the two numbers, `same` what they stand for.

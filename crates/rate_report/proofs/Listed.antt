@@ -11,7 +11,8 @@ use Rattle.std.specs.Options.{isSome}
 use Rattle.std.specs.Vec.{listOf}
 use Rattle.std.specs.declared.option.Option.{Option}
 use Rattle.recipe.specs.Numbering.{numberOf}
-use Rattle.leaves.specs.Rates.{rateOf, sameRate}
+use Rattle.leaves.specs.RateReading.{rateOf}
+use Rattle.leaves.specs.Rates.{sameRate}
 use Rattle.leaves.specs.declared.rate.Rate.{Rate}
 use Rattle.rate_report.specs.Report.{ratesOf, different, line, lines}
 

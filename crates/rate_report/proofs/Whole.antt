@@ -13,7 +13,8 @@ use Rattle.std.specs.declared.option.Option.{Option}
 use Rattle.std.specs.declared.option.Option.the-variants.{None, Some}
 use Rattle.recipe.specs.Numbering.{numberOf}
 use Rattle.recipe.proofs.Numbers.{number-lowest, number-tells, listed}
-use Rattle.leaves.specs.Rates.{rateOf, sameRate}
+use Rattle.leaves.specs.RateReading.{rateOf}
+use Rattle.leaves.specs.Rates.{sameRate}
 use Rattle.leaves.specs.declared.rate.Rate.{Rate}
 use Rattle.leaves.proofs.CrossProducts.{rate-sameness}
 use Rattle.rate_report.specs.Limit.{kept}

@@ -1,6 +1,6 @@
 -- The report on the rates of a text, byte by byte. Assumes nothing.
 use mathlib.Core.Path.{_≡_}
-use mathlib.Core.Bool.{Bool, true, cond}
+use mathlib.Core.Bool.{true, cond}
 use mathlib.Core.List.{List, [], _∷_, _++_}
 use mathlib.Core.Logic.{_↔_}
 use Prim.Native.Nat.{ℕ, suc, _<_}
@@ -13,7 +13,8 @@ use Rattle.std.specs.Written.{decimal}
 use Rattle.std.specs.declared.option.Option.{Option}
 use Rattle.std.specs.declared.option.Option.the-variants.{None, Some}
 use Rattle.recipe.specs.Numbering.{numberOf}
-use Rattle.leaves.specs.Rates.{rateOf, sameRate}
+use Rattle.leaves.specs.RateReading.{rateOf}
+use Rattle.leaves.specs.Rates.{sameRate}
 use Rattle.leaves.specs.declared.rate.Rate.{Rate}
 use Rattle.rate_report.specs.Limit.{kept, FirstWords}
 use Rattle.rate_report.specs.Words.{words}

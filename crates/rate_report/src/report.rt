@@ -5,7 +5,7 @@ ghost use lib.ListN.{length};
 ghost use Rattle.std.specs.Of.Vec.{vec-items};
 ghost use Rattle.std.specs.Vec.{made};
 ghost use Rattle.std.specs.Written.{decimal};
-ghost use Rattle.leaves.specs.Rates.{rateOf};
+ghost use Rattle.leaves.specs.RateReading.{rateOf};
 ghost use Rattle.rate_report.specs.Report.{ratesOf, numberIn, different as differentIn, verdict, line, lines as linesOf, warning, summary, Reports};
 ghost use Rattle.rate_report.specs.Words.{words as wordsOf};
 use crate::limit::kept;

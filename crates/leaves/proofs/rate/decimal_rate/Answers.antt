@@ -1,11 +1,11 @@
-use mathlib.Core.Path.{_≡_, sym, ap, ap₂, _∙_}
+use mathlib.Core.Path.{_≡_, sym, ap₂, _∙_}
 use Prim.Native.Nat.{_+_, _*_, _^_, _≤_}
 use mathlib.Core.List.{_++_}
 use native.Mathlib.Omega.{arith}
 use lib.ListN.{length}
 use Rattle.std.proofs.shelf.Tests.{and-from, cond-true}
 use Rattle.std.specs.Reads.{value}
-use Rattle.leaves.specs.Rates.{ratio}
+use Rattle.leaves.specs.RateReading.{ratio}
 use Rattle.leaves.proofs.Numerals.{Writes, writes, scaled, value-append}
 use Rattle.leaves.proofs.rate.decimal_rate.Needs as need
 use Rattle.leaves.proofs.rate.decimal_rate.Needs.{After-pow-scale}

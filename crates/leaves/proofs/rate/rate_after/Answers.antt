@@ -1,12 +1,11 @@
-use mathlib.Core.Path.{_≡_, sym, ap, ap₂, _∙_}
+use mathlib.Core.Path.{_≡_, sym, ap, _∙_}
 use mathlib.Core.Bool.{true, false}
 use Prim.Native.Nat.{_<_}
-use native.Mathlib.Omega.{arith}
 use lib.Dec.{eqb}
 use lib.ListN.{length, getD}
 use borrow.Author.Needs.{needs}
 use Rattle.std.proofs.shelf.Lists.{nil-from-length}
-use Rattle.leaves.specs.Rates.{rateAfter}
+use Rattle.leaves.specs.RateReading.{rateAfter}
 use Rattle.leaves.proofs.Front.{front}
 use Rattle.leaves.proofs.rate.rate_after.Needs as need
 

@@ -3,7 +3,7 @@ use mathlib.Core.List.{_++_}
 use lib.Chars.{codes}
 use Rattle.std.specs.Of.Vec.{vec-items}
 use Rattle.std.specs.Written.{decimal}
-use Rattle.leaves.specs.Rates.{rateOf}
+use Rattle.leaves.specs.RateReading.{rateOf}
 use Rattle.rate_report.specs.Report.{numberIn, verdict}
 use Rattle.rate_report.proofs.Appended.{more, more-as}
 use Rattle.rate_report.proofs.report.add_line.Needs as need

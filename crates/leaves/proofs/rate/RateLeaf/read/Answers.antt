@@ -1,9 +1,9 @@
-use mathlib.Core.Path.{_≡_, sym, ap, ap₂, _∙_}
+use mathlib.Core.Path.{_≡_, ap, ap₂, _∙_}
 use native.Mathlib.Omega.{arith}
 use lib.ListN.{take, drop}
 use Rattle.std.proofs.shelf.Sums.{leading-le-length}
 use Rattle.std.specs.Text.{asciiDigit}
-use Rattle.leaves.specs.Rates.{rateAfter, rateOf}
+use Rattle.leaves.specs.RateReading.{rateAfter, rateOf}
 use Rattle.leaves.proofs.Rates.{spelled-by}
 use Rattle.leaves.proofs.rate.RateLeaf.read.Needs as need
 
