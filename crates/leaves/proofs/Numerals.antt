@@ -14,7 +14,7 @@ use Rattle.std.specs.Reads.{value, valueAfter, Digits}
 use Rattle.std.specs.Text.{asciiDigit, digitValue}
 use Rattle.std.specs.declared.option.Option.the-variants.{Some}
 use Rattle.leaves.specs.Bytes.{every}
-use Rattle.leaves.specs.RateReading.{numeral, numeralOf}
+use Rattle.leaves.specs.RateReading.{isNumeral, numeralOf}
 use Rattle.leaves.specs.Rates.{Numeral}
 use Rattle.leaves.proofs.Chosen.{chosen-some}
 
@@ -30,13 +30,13 @@ all-digits (d ∷ ds) e =
 pub value-fits : (n : ℕ) (ds : List ℕ) → Digits 10 ds → length ds ≤ n → value 10 ds < 10 ^ n
 value-fits n ds all short = omega (arith, value-lt 10 ds all, pow-le-pow-right {n = 10} (omega arith) short)
 
-pub numeral-parts : (most : ℕ) (ds : List ℕ) → numeral most ds ≡ true → Numeral most ds
+pub numeral-parts : (most : ℕ) (ds : List ℕ) → isNumeral most ds ≡ true → Numeral most ds
 numeral-parts most ds e =
     let parts = and-parts (leb 1 (length ds) && leb (length ds) most) (every asciiDigit ds) e in
     let bounds = and-parts (leb 1 (length ds)) (leb (length ds) most) (parts .0) in
     record { some = leb-true 1 (length ds) (bounds .0); short = leb-true (length ds) most (bounds .1); all = parts .1 }
 
-pub numeral-from : (most : ℕ) (ds : List ℕ) → Numeral most ds → numeral most ds ≡ true
+pub numeral-from : (most : ℕ) (ds : List ℕ) → Numeral most ds → isNumeral most ds ≡ true
 numeral-from most ds n =
     and-from _ _ (and-from _ _ (le-leb 1 (length ds) (n .some)) (le-leb (length ds) most (n .short))) (n .all)
 
@@ -55,16 +55,16 @@ append n (c ∷ cs) ds = append (n * 10 + digitValue c) cs ds
 pub value-append : (cs ds : List ℕ) → value 10 (cs ++ ds) ≡ value 10 cs * 10 ^ length ds + value 10 ds
 value-append cs ds = append 0 cs ds ∙ after (value 10 cs) ds
 
--- the numeral ds writes n
+-- the isNumeral ds writes n
 pub record Writes (most : ℕ) (ds : List ℕ) (n : ℕ) : Type 0 where
-  pub passes : numeral most ds ≡ true
+  pub passes : isNumeral most ds ≡ true
   pub is : value 10 ds ≡ n
   pub short : length ds ≤ most
   pub fits : n < 10 ^ most
 
 pub writes : (most : ℕ) (ds : List ℕ) (n : ℕ) → Some n ≡ numeralOf most ds → Writes most ds n
 writes most ds n e =
-    let gave = chosen-some (numeral most ds) (value 10 ds) n (sym e) in
+    let gave = chosen-some (isNumeral most ds) (value 10 ds) n (sym e) in
     let parts = numeral-parts most ds (gave .0) in
     record {
       passes = gave .0;
@@ -73,7 +73,7 @@ writes most ds n e =
       fits = omega (arith, gave .1, value-fits most ds (all-digits ds (parts .all)) (parts .short));
     }
 
--- the numbers of a decimal stay below 2 ^ 64
+-- the numbers of a decimal stay far below 2 ^ 64
 pub scaled : (n f : ℕ) → n < 10 ^ 10 → f ≤ 6 → n * 10 ^ f ≤ 10 ^ 16
 scaled n f small short =
     let high : n ≤ 10 ^ 10 = omega arith in

@@ -15,20 +15,20 @@ use Rattle.std.specs.declared.option.Option.{Option}
 use Rattle.std.specs.declared.option.Option.the-variants.{None, Some}
 use Rattle.std.specs.shelf.Lists.{leading}
 use Rattle.leaves.specs.Bytes.{every}
-use Rattle.leaves.specs.RateReading.{numeral, ratio, fractionRate, decimalRate, rateAfter, rateOf}
-use Rattle.leaves.specs.Rates.{Form, whole, fraction, decimal, Spells, SpelledBy}
+use Rattle.leaves.specs.RateReading.{isNumeral, ratio, fractionRate, decimalRate, rateAfter, rateOf}
+use Rattle.leaves.specs.Rates.{Form, whole, fraction, decimal, SpellsRate, SpelledBy}
 use Rattle.leaves.specs.declared.rate.Rate.{Rate}
 use Rattle.leaves.proofs.Chosen.{chosen, chosen-some, none-unless}
 use Rattle.leaves.proofs.Numerals.{numeral-parts, numeral-from}
 
 long-after : (n rest : List ℕ) → 21 < length n + length rest → rateAfter n rest ≡ None
 unfolding rateAfter
-long-after n [] h = none-unless (numeral 10 n) _ (λ e. omega (arith, numeral-parts 10 n e))
+long-after n [] h = none-unless (isNumeral 10 n) _ (λ e. omega (arith, numeral-parts 10 n e))
 long-after n (b ∷ m) h = two (eqb b 47) (eqb b 46)
   where
     two : (slash point : Bool) → cond slash (fractionRate n m) (cond point (decimalRate n m) None) ≡ None
-    two true p = none-unless (numeral 10 n && numeral 10 m) _ (λ e. let parts = and-parts (numeral 10 n) (numeral 10 m) e in omega (arith, numeral-parts 10 n (parts .0), numeral-parts 10 m (parts .1)))
-    two false true = none-unless (numeral 10 n && numeral 6 m) _ (λ e. let parts = and-parts (numeral 10 n) (numeral 6 m) e in omega (arith, numeral-parts 10 n (parts .0), numeral-parts 6 m (parts .1)))
+    two true p = none-unless (isNumeral 10 n && isNumeral 10 m) _ (λ e. let parts = and-parts (isNumeral 10 n) (isNumeral 10 m) e in omega (arith, numeral-parts 10 n (parts .0), numeral-parts 10 m (parts .1)))
+    two false true = none-unless (isNumeral 10 n && isNumeral 6 m) _ (λ e. let parts = and-parts (isNumeral 10 n) (isNumeral 6 m) e in omega (arith, numeral-parts 10 n (parts .0), numeral-parts 6 m (parts .1)))
     two false false = refl
 
 -- digits that something else follows
@@ -55,7 +55,7 @@ form-read (decimal {n} {f} a b) =
     cut n (46 ∷ f) (a .all) refl ∙ cond-true _ _ _ (and-from _ _ (numeral-from 10 n a) (numeral-from 6 f b))
 
 -- a ratio within the limits
-limits : (word : List ℕ) (n d : ℕ) (x : Rate) → Form word n d → ratio n d ≡ Some x → Spells word x
+limits : (word : List ℕ) (n d : ℕ) (x : Rate) → Form word n d → ratio n d ≡ Some x → SpellsRate word x
 limits word n d x form e =
     let gave = chosen-some ((leb n 2147483647 && leb 1 d) && leb d 2147483647) (record { numerator = n; denominator = d }) x e in
     let outer = and-parts (leb n 2147483647 && leb 1 d) (leb d 2147483647) (gave .0) in
@@ -69,27 +69,27 @@ limits word n d x form e =
       bottom = omega (arith, leb-true d 2147483647 (outer .1));
     }
 
-after-spells : (n rest : List ℕ) (x : Rate) → rateAfter n rest ≡ Some x → Spells (n ++ rest) x
+after-spells : (n rest : List ℕ) (x : Rate) → rateAfter n rest ≡ Some x → SpellsRate (n ++ rest) x
 unfolding rateAfter
 after-spells n [] x e =
-    let gave = chosen (numeral 10 n) (ratio (value 10 n) 1) x e in
-    subst (λ w. Spells w x) (sym (append-nil n)) (limits n (value 10 n) 1 x (whole (numeral-parts 10 n (gave .0))) (gave .1))
+    let gave = chosen (isNumeral 10 n) (ratio (value 10 n) 1) x e in
+    subst (λ w. SpellsRate w x) (sym (append-nil n)) (limits n (value 10 n) 1 x (whole (numeral-parts 10 n (gave .0))) (gave .1))
 after-spells n (b ∷ m) x e = by-mark (eqb b 47) (eqb b 46) refl refl e
   where
-    by-mark : (slash point : Bool) → eqb b 47 ≡ slash → eqb b 46 ≡ point → cond slash (fractionRate n m) (cond point (decimalRate n m) None) ≡ Some x → Spells (n ++ b ∷ m) x
+    by-mark : (slash point : Bool) → eqb b 47 ≡ slash → eqb b 46 ≡ point → cond slash (fractionRate n m) (cond point (decimalRate n m) None) ≡ Some x → SpellsRate (n ++ b ∷ m) x
     by-mark true point is other e =
-        let gave = chosen (numeral 10 n && numeral 10 m) (ratio (value 10 n) (value 10 m)) x e in
-        let parts = and-parts (numeral 10 n) (numeral 10 m) (gave .0) in
-        subst (λ c. Spells (n ++ c ∷ m) x) (sym (eqb-true b 47 is))
+        let gave = chosen (isNumeral 10 n && isNumeral 10 m) (ratio (value 10 n) (value 10 m)) x e in
+        let parts = and-parts (isNumeral 10 n) (isNumeral 10 m) (gave .0) in
+        subst (λ c. SpellsRate (n ++ c ∷ m) x) (sym (eqb-true b 47 is))
         (limits (n ++ 47 ∷ m) (value 10 n) (value 10 m) x (fraction (numeral-parts 10 n (parts .0)) (numeral-parts 10 m (parts .1))) (gave .1))
     by-mark false true other is e =
-        let gave = chosen (numeral 10 n && numeral 6 m) (ratio (value 10 (n ++ m)) (10 ^ length m)) x e in
-        let parts = and-parts (numeral 10 n) (numeral 6 m) (gave .0) in
-        subst (λ c. Spells (n ++ c ∷ m) x) (sym (eqb-true b 46 is))
+        let gave = chosen (isNumeral 10 n && isNumeral 6 m) (ratio (value 10 (n ++ m)) (10 ^ length m)) x e in
+        let parts = and-parts (isNumeral 10 n) (isNumeral 6 m) (gave .0) in
+        subst (λ c. SpellsRate (n ++ c ∷ m) x) (sym (eqb-true b 46 is))
         (limits (n ++ 46 ∷ m) (value 10 (n ++ m)) (10 ^ length m) x (decimal (numeral-parts 10 n (parts .0)) (numeral-parts 6 m (parts .1))) (gave .1))
     by-mark false false other also e = absurd (both-ways false refl (ap isSome e))
 
-spells-read : (word : List ℕ) (x : Rate) → Spells word x → rateOf word ≡ Some x
+spells-read : (word : List ℕ) (x : Rate) → SpellsRate word x → rateOf word ≡ Some x
 spells-read word x s =
     form-read (s .form) ∙ cond-true _ _ _ (and-from _ _ (and-from _ _ (le-leb (x .numerator) 2147483647 (s .top)) (le-leb 1 (x .denominator) (s .nonzero))) (le-leb (x .denominator) 2147483647 (s .bottom)))
 
@@ -98,11 +98,11 @@ pub spelled-by : (word : List ℕ) (r : Option Rate) → r ≡ rateOf word → S
 unfolding rateOf
 spelled-by word r is x =
     let k = leading asciiDigit word in (
-      λ e. subst (λ w. Spells w x) (take-append-drop k word) (after-spells (take k word) (drop k word) x (sym is ∙ e)),
+      λ e. subst (λ w. SpellsRate w x) (take-append-drop k word) (after-spells (take k word) (drop k word) x (sym is ∙ e)),
       λ s. is ∙ spells-read word x s,
     )
 
--- no rate has more than 21 bytes
+-- no word of more than 21 bytes spells a rate
 pub rate-bounded : (word : List ℕ) → 21 < length word → rateOf word ≡ None
 unfolding rateOf
 rate-bounded word h =

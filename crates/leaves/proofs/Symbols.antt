@@ -12,7 +12,7 @@ use Rattle.std.specs.Options.{isSome}
 use Rattle.std.specs.Text.{asciiLower}
 use Rattle.std.specs.declared.option.Option.{Option}
 use Rattle.std.specs.declared.option.Option.the-variants.{Some}
-use Rattle.recipe.specs.Packing.{packed, packedWithin, Spelling}
+use Rattle.recipe.specs.Packing.{packed, packedIfShort, Spelling}
 use Rattle.recipe.proofs.PackedOnce.{packed-once}
 use Rattle.leaves.specs.Bytes.{every}
 use Rattle.leaves.specs.Symbols.{nameByte, isTail, isName, symbolOf, OnlyWord}
@@ -21,7 +21,7 @@ use Rattle.leaves.proofs.Chosen.{chosen-some}
 use Rattle.leaves.proofs.Every.{every-at}
 
 -- the number that `pack` gave
-pub packed-is : (p : ℕ) (bs : List ℕ) → Some p ≡ packedWithin bs → p ≡ packed bs
+pub packed-is : (p : ℕ) (bs : List ℕ) → Some p ≡ packedIfShort bs → p ≡ packed bs
 packed-is p bs e = sym (chosen-some (leb (length bs) 8) (packed bs) p (sym e) .1)
 
 name-byte : (b : ℕ) → nameByte b ≡ true → (0 < b) × (b < 256)

@@ -25,16 +25,20 @@ pub data Form : List ℕ → ℕ → ℕ → Type 0 where
   fraction : {n d : List ℕ} → Numeral 10 n → Numeral 10 d → Form (n ++ 47 ∷ d) (value 10 n) (value 10 d)
   decimal : {n f : List ℕ} → Numeral 10 n → Numeral 6 f → Form (n ++ 46 ∷ f) (value 10 (n ++ f)) (10 ^ length f)
 
--- the word spells the rate x, unreduced: it has one of the forms, and its numbers are within the limits
-pub record Spells (word : List ℕ) (x : Rate) : Type 0 where
+-- the largest numerator and denominator of a rate that is read
+abbrev pub largest : ℕ
+largest = 2147483647
+
+-- the word spells the rate x, unreduced: it has one of the forms, with numbers that are not too large, and the denominator is not 0
+pub record SpellsRate (word : List ℕ) (x : Rate) : Type 0 where
   pub form : Form word (x .numerator) (x .denominator)
-  pub top : x .numerator ≤ 2147483647
+  pub top : x .numerator ≤ largest
   pub nonzero : 1 ≤ x .denominator
-  pub bottom : x .denominator ≤ 2147483647
+  pub bottom : x .denominator ≤ largest
 
 -- r is the rate that the word spells, and none where it spells none
 abbrev pub SpelledBy : List ℕ → Option Rate → Type 0
-SpelledBy word r = (x : Rate) → (r ≡ Some x) ↔ Spells word x
+SpelledBy word r = (x : Rate) → (r ≡ Some x) ↔ SpellsRate word x
 
 -- two rates are the same when their cross products are equal; one with denominator 0 only as its equal
 abbrev pub sameRate : Rate → Rate → Bool

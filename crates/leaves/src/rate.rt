@@ -26,7 +26,7 @@ fn leading_digits(word: &[u8]) -> usize
     word.len()
 }
 
-// The number that one to `most` decimal digits write, of which 18 always fit.
+// The number that one to `most` decimal digits write; 18 digits fit in 64 bits.
 fn numeral(digits: &[u8], most: usize) -> Option<u64>
     requires { ⌜ most ≤ 18 ⌝ }
     ensures { λ r. ⌜ r ≡ numeralOf most (now (digits .entry)) ⌝ }
@@ -65,10 +65,10 @@ fn whole_rate(digits: &[u8]) -> Option<Rate>
 }
 
 // The rate that the numerals on both sides of a slash spell.
-fn fraction_rate(above: &[u8], below: &[u8]) -> Option<Rate>
-    ensures { λ r. ⌜ r ≡ fractionRate (now (above .entry)) (now (below .entry)) ⌝ }
+fn fraction_rate(numerator: &[u8], denominator: &[u8]) -> Option<Rate>
+    ensures { λ r. ⌜ r ≡ fractionRate (now (numerator .entry)) (now (denominator .entry)) ⌝ }
 {
-    ratio(numeral(above, 10)?, numeral(below, 10)?)
+    ratio(numeral(numerator, 10)?, numeral(denominator, 10)?)
 }
 
 // The rate that the numerals on both sides of a point spell.
@@ -87,7 +87,7 @@ fn rate_after(digits: &[u8], rest: &[u8]) -> Option<Rate>
 {
     match rest {
         [] => whole_rate(digits),
-        [b'/', below @ ..] => fraction_rate(digits, below),
+        [b'/', denominator @ ..] => fraction_rate(digits, denominator),
         [b'.', decimals @ ..] => decimal_rate(digits, decimals),
         _ => None,
     }
@@ -96,7 +96,7 @@ fn rate_after(digits: &[u8], rest: &[u8]) -> Option<Rate>
 pub impl Leaf for Rate as RateLeaf {
     const LONGEST: usize = 21;
 
-    ghost limit = { 21 };
+    ghost longest = { 21 };
 
     ghost spells = { rateOf };
 

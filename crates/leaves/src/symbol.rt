@@ -50,7 +50,7 @@ fn is_name(bytes: &[u8]) -> bool
 pub impl Leaf for Symbol as SymbolLeaf {
     const LONGEST: usize = 9;
 
-    ghost limit = { 9 };
+    ghost longest = { 9 };
 
     ghost spells = { symbolOf };
 

@@ -8,7 +8,7 @@ use recipe::leaf_number;
 use std::test::*;
 
 // Each word with the numerator and the denominator that it spells, if it spells a rate.
-const RATES: [(&str, Option<(u32, u32)>); 42] = [
+const RATES: [(&str, Option<(u32, u32)>); 56] = [
     ("24", Some((24, 1))),
     ("0", Some((0, 1))),
     ("007", Some((7, 1))),
@@ -54,6 +54,20 @@ const RATES: [(&str, Option<(u32, u32)>); 42] = [
     ("25fps", None),
     ("24 ", None),
     ("'24", None),
+    ("2147483648/1", None),
+    ("1/0000000000", None),
+    ("0.000000", Some((0, 1_000_000))),
+    ("2147.483647", Some((2_147_483_647, 1_000_000))),
+    ("2147.483648", None),
+    ("214748364.7", Some((2_147_483_647, 10))),
+    ("214748364.8", None),
+    ("2147483647.0", None),
+    ("1:2", None),
+    ("/", None),
+    (".", None),
+    ("+5", None),
+    ("1,5", None),
+    ("٣", None),
 ];
 
 #[test]
@@ -69,7 +83,7 @@ fn rates_are_read_as_spelled() -> Result<(), Fail> {
 }
 
 // Each word with the number that packs its name, if it spells a symbol.
-const SYMBOLS: [(&str, Option<u64>); 22] = [
+const SYMBOLS: [(&str, Option<u64>); 33] = [
     ("'a", Some(0x6100_0000_0000_0000)),
     ("'z", Some(0x7a00_0000_0000_0000)),
     ("'lift", Some(0x6c69_6674_0000_0000)),
@@ -92,6 +106,17 @@ const SYMBOLS: [(&str, Option<u64>); 22] = [
     ("'a_b", None),
     ("'a.b", None),
     ("'é", None),
+    ("'a0", Some(0x6130_0000_0000_0000)),
+    ("'a9", Some(0x6139_0000_0000_0000)),
+    ("'az", Some(0x617a_0000_0000_0000)),
+    ("'a/", None),
+    ("'a:", None),
+    ("'a,", None),
+    ("'a`", None),
+    ("'a{", None),
+    ("'`", None),
+    ("'{", None),
+    ("'a ", None),
 ];
 
 #[test]
@@ -107,7 +132,7 @@ fn symbols_are_read_as_spelled() -> Result<(), Fail> {
 }
 
 // Two rates, each as numerator and denominator, and whether they are the same.
-const PAIRS: [((u32, u32), (u32, u32), bool); 14] = [
+const PAIRS: [((u32, u32), (u32, u32), bool); 16] = [
     ((24, 1), (48, 2), true),
     ((23_976, 1000), (24_000, 1001), false),
     ((2997, 100), (30_000, 1001), false),
@@ -122,6 +147,12 @@ const PAIRS: [((u32, u32), (u32, u32), bool); 14] = [
     ((1, 0), (1, 1), false),
     ((0, 0), (0, 5), false),
     ((0, 5), (0, 0), false),
+    ((65_536, 1), (0, 65_536), false),
+    (
+        (u32::MAX, u32::MAX - 1),
+        (u32::MAX - 1, u32::MAX - 2),
+        false,
+    ),
 ];
 
 fn rate((numerator, denominator): (u32, u32)) -> Rate {
@@ -134,28 +165,39 @@ fn rate((numerator, denominator): (u32, u32)) -> Rate {
 #[test]
 fn rates_are_the_same_by_cross_products() -> Result<(), Fail> {
     for (left, right, expected) in PAIRS {
-        check_eq(rate(left).same(&rate(right)), expected)?;
-        check_eq(rate(right).same(&rate(left)), expected)?;
+        let (n, d) = left;
+        let (m, e) = right;
+        check_eq(rate(left).same(&rate(right)), expected).note(format_args!(
+            "{n}/{d} and {m}/{e}"
+        ))?;
+        check_eq(rate(right).same(&rate(left)), expected).note(format_args!(
+            "{m}/{e} and {n}/{d}"
+        ))?;
     }
     Ok(())
 }
 
 #[test]
-fn leaves_are_numbered_by_the_first_same() -> Result<(), Fail> {
+fn rates_are_numbered_by_the_first_same() -> Result<(), Fail> {
     let rates = [rate((25, 1)), rate((24, 1)), rate((48, 2)), rate((1, 0))];
     check_eq(leaf_number(&rates, &rate((24, 1))), Some(1))?;
     check_eq(leaf_number(&rates, &rate((72, 3))), Some(1))?;
     check_eq(leaf_number(&rates, &rate((50, 2))), Some(0))?;
     check_eq(leaf_number(&rates, &rate((1, 0))), Some(3))?;
     check_eq(leaf_number(&rates, &rate((30, 1))), None)?;
-    let symbols = [
-        Symbol { packed: 7 },
-        Symbol { packed: 9 },
-        Symbol { packed: 7 },
-    ];
-    check_eq(leaf_number(&symbols, &Symbol { packed: 7 }), Some(0))?;
-    check_eq(leaf_number(&symbols, &Symbol { packed: 9 }), Some(1))?;
-    check_eq(leaf_number(&symbols, &Symbol { packed: 8 }), None)
+    check_eq(leaf_number(&rates[0..0], &rate((25, 1))), None)
+}
+
+#[test]
+fn symbols_are_numbered_by_the_first_same() -> Result<(), Fail> {
+    let lift = Symbol::read(b"'lift").ok_or("'lift is no symbol")?;
+    let gain = Symbol::read(b"'gain").ok_or("'gain is no symbol")?;
+    let gains = Symbol::read(b"'gains").ok_or("'gains is no symbol")?;
+    let symbols = [lift, gain, lift];
+    check(lift.same(&lift) && !lift.same(&gain) && !gain.same(&gains))?;
+    check_eq(leaf_number(&symbols, &lift), Some(0))?;
+    check_eq(leaf_number(&symbols, &gain), Some(1))?;
+    check_eq(leaf_number(&symbols, &gains), None)
 }
 
 #[test]

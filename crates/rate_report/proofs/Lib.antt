@@ -1,5 +1,5 @@
 pub mod Appended
 pub mod Cuts
-pub mod Fronts
+pub mod Prefixes
 pub mod Listed
 pub mod Whole

@@ -1,20 +1,18 @@
 -- The rates and the lines of a list of words, one word more at a time. Assumes nothing.
-use mathlib.Core.Path.{_≡_, refl, sym, ap, _∙_}
-use mathlib.Core.Bool.{Bool, true, false, cond, not}
+use mathlib.Core.Path.{_≡_, refl, sym, ap, ap₂, _∙_}
+use mathlib.Core.Bool.{Bool, cond}
 use mathlib.Core.List.{List, [], _∷_, _++_}
-use Prim.Native.Nat.{ℕ, suc, _+_, _-_, _<_}
+use Prim.Native.Nat.{ℕ, _+_, _<_}
 use native.Mathlib.Numerals.{add-one}
-use native.Mathlib.Omega.{arith}
-use lib.ListN.{length, getD, take, drop}
-use Rattle.std.proofs.shelf.Lists.{at-drop-more, take-rest}
-use Rattle.std.specs.Options.{isSome}
+use lib.ListN.{length, getD, drop}
+use Rattle.std.proofs.shelf.Lists.{at-drop-more}
 use Rattle.std.specs.Vec.{listOf}
 use Rattle.std.specs.declared.option.Option.{Option}
 use Rattle.recipe.specs.Numbering.{numberOf}
 use Rattle.leaves.specs.RateReading.{rateOf}
 use Rattle.leaves.specs.Rates.{sameRate}
 use Rattle.leaves.specs.declared.rate.Rate.{Rate}
-use Rattle.rate_report.specs.Report.{ratesOf, different, line, lines}
+use Rattle.rate_report.specs.Report.{ratesOf, isOwn, firsts, line, lines}
 
 pub rates-more : (ws : List (List ℕ)) (w : List ℕ) (rest : List (List ℕ)) (r : Option Rate) → ws ≡ w ∷ rest → r ≡ rateOf w → ratesOf ws ≡ listOf r ++ ratesOf rest
 unfolding ratesOf
@@ -24,24 +22,16 @@ pub rates-none : (ws : List (List ℕ)) → ws ≡ [] → ratesOf ws ≡ []
 unfolding ratesOf
 rates-none ws e = ap ratesOf e
 
--- one rate less to come: it counts unless one after it is the same
-pub different-more : (xs : List Rate) (i : ℕ) (d : Rate) (r : Option ℕ) (alone : Bool) → i < length xs → r ≡ numberOf sameRate (take (length xs - (i + 1)) (drop (i + 1) xs)) (getD xs i d) → isSome r ≡ not alone → different (drop i xs) ≡ cond alone 1 0 + different (drop (i + 1) xs)
-unfolding different
-different-more xs i d r alone h is e = at-drop-more different xs i d h ∙ ap (λ b. cond b rest (suc rest)) found ∙ counted alone
-  where
-    rest : ℕ
-    rest = different (drop (i + 1) xs)
+-- one rate less to come
+pub firsts-more : (rates : List Rate) (i : ℕ) (d : Rate) (own : Bool) → i < length rates → own ≡ isOwn i (numberOf sameRate rates (getD rates i d)) → firsts rates i (drop i rates) ≡ cond own 1 0 + firsts rates (i + 1) (drop (i + 1) rates)
+unfolding firsts
+firsts-more rates i d own h is =
+    let rest = drop (i + 1) rates in
+    at-drop-more (firsts rates i) rates i d h ∙ ap₂ (λ b k. cond b 1 0 + firsts rates k rest) (sym is) (sym (add-one i))
 
-    found : isSome (numberOf sameRate (drop (i + 1) xs) (getD xs i d)) ≡ not alone
-    found = ap isSome (ap (λ l. numberOf sameRate l (getD xs i d)) (sym (take-rest xs (i + 1))) ∙ sym is) ∙ e
-
-    counted : (b : Bool) → cond (not b) rest (suc rest) ≡ cond b 1 0 + rest
-    counted true = omega arith
-    counted false = omega arith
-
-pub different-none : different [] ≡ 0
-unfolding different
-different-none = refl
+pub firsts-none : (rates : List Rate) (i : ℕ) → firsts rates i [] ≡ 0
+unfolding firsts
+firsts-none rates i = refl
 
 pub lines-more : (rates : List Rate) (i : ℕ) (ws : List (List ℕ)) (w : List ℕ) (rest : List (List ℕ)) → ws ≡ w ∷ rest → lines rates i ws ≡ line rates i w ++ lines rates (i + 1) rest
 unfolding lines

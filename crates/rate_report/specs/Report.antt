@@ -1,11 +1,11 @@
 -- The report on the rates of a text, byte by byte. Assumes nothing.
 use mathlib.Core.Path.{_≡_}
-use mathlib.Core.Bool.{true, cond}
+use mathlib.Core.Bool.{Bool, true, false, cond}
 use mathlib.Core.List.{List, [], _∷_, _++_}
 use mathlib.Core.Logic.{_↔_}
-use Prim.Native.Nat.{ℕ, suc, _<_}
+use Prim.Native.Nat.{ℕ, suc, _+_, _<_}
 use lib.Chars.{codes}
-use lib.Dec.{ltb}
+use lib.Dec.{eqb, ltb}
 use lib.ListN.{length, getD}
 use Rattle.std.specs.Options.{isSome}
 use Rattle.std.specs.Vec.{listOf}
@@ -14,9 +14,9 @@ use Rattle.std.specs.declared.option.Option.{Option}
 use Rattle.std.specs.declared.option.Option.the-variants.{None, Some}
 use Rattle.recipe.specs.Numbering.{numberOf}
 use Rattle.leaves.specs.RateReading.{rateOf}
-use Rattle.leaves.specs.Rates.{sameRate}
+use Rattle.leaves.specs.Rates.{SpelledBy, sameRate}
 use Rattle.leaves.specs.declared.rate.Rate.{Rate}
-use Rattle.rate_report.specs.Limit.{kept, FirstWords}
+use Rattle.rate_report.specs.Limit.{Keeps, FirstWords, kept}
 use Rattle.rate_report.specs.Words.{words}
 
 -- the rates that the words spell, in order
@@ -29,10 +29,19 @@ abbrev pub numberIn : List Rate → Option Rate → Option ℕ
 numberIn rates None = None
 numberIn rates (Some x) = numberOf sameRate rates x
 
--- how many rates there are if those that are the same count once: the rates that are the same as none after them
-unfoldable pub different : List Rate → ℕ
-different [] = 0
-different (x ∷ xs) = cond (isSome (numberOf sameRate xs x)) (different xs) (suc (different xs))
+-- whether the number of a rate is its own index, so that it is the first of its kind
+abbrev pub isOwn : ℕ → Option ℕ → Bool
+isOwn i None = false
+isOwn i (Some n) = eqb n i
+
+-- how many of the rates xs, which stand in the list from the index i, are the first of their kind
+unfoldable pub firsts : List Rate → ℕ → List Rate → ℕ
+firsts rates i [] = 0
+firsts rates i (x ∷ xs) = cond (isOwn i (numberOf sameRate rates x)) 1 0 + firsts rates (suc i) xs
+
+-- how many different rates there are: those that are the first of their kind
+abbrev pub different : List Rate → ℕ
+different rates = firsts rates 0 rates
 
 -- what is said of a word: the number of its rate, or that it is none
 abbrev pub verdict : Option ℕ → List ℕ
@@ -58,7 +67,7 @@ abbrev pub summary : ℕ → List Rate → List ℕ
 summary count rates =
     codes "words " ++ decimal count ++ codes ", rates " ++ decimal (length rates) ++ codes ", different rates " ++ decimal (different rates) ++ codes "\n"
 
--- the report on an input, of which at most limit bytes are read
+-- the report on an input, of which at most limit bytes are listed
 unfoldable pub reportOf : ℕ → List ℕ → List ℕ
 reportOf limit input =
     let ws = words (kept limit input) in
@@ -73,8 +82,15 @@ pub record WordsTell (ws : List (List ℕ)) : Type 0 where
   pub rates : (k : ℕ) → k < length ws → isSome (wordNumber ws k) ≡ isSome (rateOf (getD ws k []))
   pub same : (j k : ℕ) (x y : Rate) → j < length ws → k < length ws → rateOf (getD ws j []) ≡ Some x → rateOf (getD ws k []) ≡ Some y → (wordNumber ws j ≡ wordNumber ws k) ↔ (sameRate x y ≡ true)
 
--- out is the report on the input, its lines are those of the first words of the input, and its numbers tell which words spell the same rate
+-- out is the report on the input
 pub record Reports (limit : ℕ) (input out : List ℕ) : Type 0 where
+  -- byte by byte
   pub bytes : out ≡ reportOf limit input
-  pub first : FirstWords limit input
+  -- on the longest front of the input within the limit past which no word goes on
+  pub front : Keeps limit input (kept limit input)
+  -- so that its words are the first words of the input
+  pub first : FirstWords input (kept limit input)
+  -- each read as the grammar of rates spells it
+  pub spelled : (word : List ℕ) → SpelledBy word (rateOf word)
+  -- and numbered so that the numbers tell which rates are the same
   pub tell : WordsTell (words (kept limit input))

@@ -33,5 +33,5 @@ words [] = []
 words (b ∷ bs) = cond (white b) (words bs) (cond (ended bs) ((b ∷ []) ∷ words bs) (extended b (words bs)))
 
 -- r is the first word of the text, and none where it has none; rest is what follows it
-abbrev pub Gives : List ℕ → Option (RefT (List ℕ)) → List ℕ → Type 0
-Gives text r rest = Cases r (words text ≡ []) (λ w. words text ≡ w .now ∷ words rest)
+abbrev pub NextWord : List ℕ → Option (RefT (List ℕ)) → List ℕ → Type 0
+NextWord text r rest = Cases r (words text ≡ []) (λ w. words text ≡ w .now ∷ words rest)

@@ -2,13 +2,13 @@
 ghost use mathlib.Core.Path.{_≡_};
 ghost use Prim.Native.Nat.{_≤_};
 ghost use lib.ListN.{length};
-ghost use Rattle.rate_report.specs.Limit.{back, kept as keptOf};
+ghost use Rattle.rate_report.specs.Limit.{lastBreak, kept as keptOf};
 use crate::words::is_white;
 
 // The last place, `end` or before it, that is the start of the text or follows white space.
 fn word_start(text: &[u8], mut end: usize) -> usize
     requires { ⌜ end ≤ length (now text) ⌝ }
-    ensures start { λ r. ⌜ r ≡ back (now (text .entry)) end ⌝ }
+    ensures start { λ r. ⌜ r ≡ lastBreak (now (text .entry)) end ⌝ }
     ensures within { λ r. ⌜ r ≤ end ⌝ }
 {
     while end > 0 && !is_white(text[end - 1]) {

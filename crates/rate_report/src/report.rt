@@ -6,7 +6,9 @@ ghost use Rattle.std.specs.Of.Vec.{vec-items};
 ghost use Rattle.std.specs.Vec.{made};
 ghost use Rattle.std.specs.Written.{decimal};
 ghost use Rattle.leaves.specs.RateReading.{rateOf};
-ghost use Rattle.rate_report.specs.Report.{ratesOf, numberIn, different as differentIn, verdict, line, lines as linesOf, warning, summary, Reports};
+ghost use Rattle.leaves.specs.Rates.{sameRate};
+ghost use Rattle.recipe.specs.Numbering.{numberOf};
+ghost use Rattle.rate_report.specs.Report.{ratesOf, numberIn, isOwn, different as differentIn, verdict, line, lines as linesOf, warning, summary, Reports};
 ghost use Rattle.rate_report.specs.Words.{words as wordsOf};
 use crate::limit::kept;
 use crate::words::Words;
@@ -16,7 +18,7 @@ use recipe::leaf_number;
 use std::alloc::AllocError;
 use std::alloc::Global;
 
-// The most bytes of an input that are read.
+// The most bytes of an input that are listed.
 pub const LIMIT: usize = 65_536;
 
 // The rates that the words of the text spell, in order.
@@ -33,13 +35,23 @@ fn rates_of(heap: Global, text: &[u8]) -> Result<Vec<Rate>, AllocError>
     Ok(rates)
 }
 
-// How many rates there are if those that are the same count once.
+// Whether the rate, which stands in the list at the index, is the first of its kind.
+fn is_first(rates: &[Rate], rate: &Rate, index: usize) -> bool
+    ensures { λ r. ⌜ r ≡ isOwn index (numberOf sameRate (now (rates .entry)) (now (rate .entry))) ⌝ }
+{
+    match leaf_number(rates, rate) {
+        Some(number) => number == index,
+        None => false,
+    }
+}
+
+// How many different rates there are.
 fn different(rates: &[Rate]) -> usize
     ensures { λ r. ⌜ r ≡ differentIn (now (rates .entry)) ⌝ }
 {
     let mut count = 0;
     for (i, rate) in rates.iter().enumerate() {
-        if leaf_number(&rates[i + 1..], rate).is_none() {
+        if is_first(rates, rate, i) {
             count += 1;
         }
     }
@@ -64,7 +76,7 @@ fn add_number(out: &mut Vec<u8>, heap: Global, number: usize) -> Result<(), Allo
     out.extend_from_slice(digits.as_bytes())
 }
 
-// Adds what is said of a word: the number of its rate, or that it is none.
+// Adds what is said of a word: the number of its rate, or that it spells none.
 fn add_verdict(out: &mut Vec<u8>, heap: Global, number: Option<usize>) -> Result<(), AllocError>
     ensures { λ r. ⌜ made r (λ _. vec-items (now (out .exit)) ≡ vec-items (now (out .entry)) ++ verdict number) ⌝ }
 {

@@ -1,7 +1,7 @@
 // The words of a text: its runs of bytes that are no white space.
 ghost use mathlib.Core.Path.{_≡_};
 ghost use Rattle.std.specs.shelf.Lists.{leading};
-ghost use Rattle.rate_report.specs.Words.{white, ofKind, Gives};
+ghost use Rattle.rate_report.specs.Words.{white, ofKind, NextWord};
 
 pub(crate) fn is_white(byte: u8) -> bool
     ensures { λ r. ⌜ r ≡ white byte ⌝ }
@@ -36,7 +36,7 @@ impl<'t> Words<'t> {
 
     // The next word, or none at the end of the text.
     pub(crate) fn next(&mut self) -> Option<&'t [u8]>
-        ensures { λ r. ⌜ Gives (now (now (self .entry) .rest)) r (now (now (self .exit) .rest)) ⌝ }
+        ensures { λ r. ⌜ NextWord (now (now (self .entry) .rest)) r (now (now (self .exit) .rest)) ⌝ }
     {
         let text = self.rest;
         let (_, begun) = text.split_at(run_length(text, true));

@@ -12,7 +12,7 @@ use Rattle.std.specs.Options.{isSome, mapped}
 use Rattle.std.specs.declared.option.Option.{Option}
 use Rattle.std.specs.declared.option.Option.the-variants.{None, Some}
 use Rattle.recipe.specs.Numbering.{numberOf, NoneBelow, Lowest, Listed, NumbersTell, Numbered}
-use Rattle.recipe.specs.Sameness.{Sameness}
+use Rattle.recipe.proofs.Sameness.{Sameness}
 
 module _ {L : Type 0} (same : L → L → Bool) where
   -- one leaf more in front
@@ -38,7 +38,7 @@ module _ {L : Type 0} (same : L → L → Bool) where
   lowest-unique xs x (Some i) (Some j) low also =
       elim (cases-order i j) [ inl e ↦ ap Some e | inr (inl h) ↦ absurd (both-ways _ (also .2 i h) (low .1)) | inr (inr h) ↦ absurd (both-ways _ (low .2 j h) (also .1)) ]
 
-  -- leaves that are the same as the same leaves have one number
+  -- two leaves that every leaf matches alike have one number
   number-ap : (xs : List L) (x z : L) → ((y : L) → same y x ≡ same y z) → numberOf same xs x ≡ numberOf same xs z
   unfolding numberOf
   number-ap [] x z alike = refl
@@ -49,7 +49,7 @@ module _ {L : Type 0} (same : L → L → Bool) where
     listed xs x None low = λ k h e. absurd (both-ways _ (low k h) (ap (λ y. same y x) e ∙ laws .reflexive x))
     listed xs x (Some i) low = λ k h e. refl
 
-    -- both sides of a test are true together
+    -- two tests that imply each other are equal
     together : (b c : Bool) → (b ≡ true → c ≡ true) → (c ≡ true → b ≡ true) → b ≡ c
     together true c there back = sym (there refl)
     together false true there back = back refl

@@ -1,3 +1,2 @@
 pub mod Numbering
 pub mod Packing
-pub mod Sameness

@@ -27,12 +27,12 @@ Lowest same xs x r =
 abbrev pub Listed : {L : Type 0} → List L → L → Option ℕ → Type 0
 Listed xs x r = (k : ℕ) → k < length xs → getD xs k x ≡ x → isSome r ≡ true
 
--- two leaves of the list have one number exactly when they are the same
+-- two leaves of the list have one number exactly when they are the same (j and k are indices of the list, so that d is never read)
 abbrev pub NumbersTell : {L : Type 0} → (L → L → Bool) → List L → Type 0
 NumbersTell {L} same xs =
     (j k : ℕ) (d : L) → j < length xs → k < length xs → (numberOf same xs (getD xs j d) ≡ numberOf same xs (getD xs k d)) ↔ (same (getD xs j d) (getD xs k d) ≡ true)
 
--- r is the number of x in xs, and what numbers are good for
+-- r is the number of x in xs, with the facts that follow from the laws of sameness
 pub record Numbered {L : Type 0} (same : L → L → Bool) (xs : List L) (x : L) (r : Option ℕ) : Type 0 where
   pub value : r ≡ numberOf same xs x
   pub lowest : Lowest same xs x r

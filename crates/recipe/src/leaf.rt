@@ -8,11 +8,11 @@ ghost use Rattle.std.specs.declared.option.Option.{Option};
 ghost use Rattle.std.specs.declared.option.Option.the-variants.{None};
 
 pub trait Leaf: Copy {
-    // The longest word, in bytes, that spells a leaf of the kind.
+    // The length, in bytes, of the longest word that spells a leaf.
     const LONGEST: usize;
 
-    // The same number, for clauses, which cannot name the constant.
-    ghost limit: { ℕ };
+    // That length for clauses, which cannot name the constant.
+    ghost longest: { ℕ };
 
     // The leaf that a word spells, if it spells one.
     ghost spells: { List ℕ → Option Self };
@@ -20,17 +20,19 @@ pub trait Leaf: Copy {
     // Whether two leaves are the same.
     ghost equates: { Self → Self → Bool };
 
+    // Sameness is an equivalence, over all values of the type.
     law reflexive: { (x : Self) → equates x x ≡ true };
 
     law symmetric: { (x y : Self) → equates x y ≡ true → equates y x ≡ true };
 
     law transitive: { (x y z : Self) → equates x y ≡ true → equates y z ≡ true → equates x z ≡ true };
 
-    law bounded: { (word : List ℕ) → limit < length word → spells word ≡ None };
+    // A word that is longer than the longest spells nothing.
+    law bounded: { (word : List ℕ) → longest < length word → spells word ≡ None };
 
-    // `LONGEST`, for generic code that needs its value.
+    // An `impl` returns its `LONGEST` here, which ties the constant to the clauses.
     fn longest_word() -> usize
-        ensures { λ r. ⌜ r ≡ limit ⌝ };
+        ensures { λ r. ⌜ r ≡ longest ⌝ };
 
     // The leaf that `word` spells, or none.
     fn read(word: &[u8]) -> Option<Self>

@@ -28,7 +28,7 @@ returns c =
     let word = c .args .word .now in
     let some : 0 < length word = search needs in
     let quote : eqb (getD word 0 0) 39 ≡ true = search needs in
-    let gave = packed-is (c .in-Continue-packed .packed) _ (c .in-Continue-packed .ensures tt) in
+    let gave = packed-is (c .in-Continue-packed .packed) _ (c .in-Continue-packed .ensures tt .value) in
     let symbol : Symbol = record { packed = c .in-Continue-packed .packed } in
     let is : Some symbol ≡ symbolOf word = rw (ap symbolOf (front word some), quote, sym (c .if-not-is-name .ensures tt)) (ap (λ p. Some (record { packed = p })) gave) in
     both word (Some symbol) is

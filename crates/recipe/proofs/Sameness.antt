@@ -1,4 +1,4 @@
--- When a test between leaves is a sameness: an equivalence, over all values. Assumes nothing.
+-- The laws of the trait `Leaf`, for any test: it is an equivalence. Assumes nothing.
 use mathlib.Core.Path.{_≡_}
 use mathlib.Core.Bool.{Bool, true}
 
