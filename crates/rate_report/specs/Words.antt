@@ -12,7 +12,7 @@ use Rattle.std.specs.declared.option.Option.{Option}
 abbrev pub white : ℕ → Bool
 white b = eqb b 32 || eqb b 9 || eqb b 10 || eqb b 13
 
--- white space, or any other byte
+-- white space for true, and any other byte for false
 abbrev pub ofKind : Bool → ℕ → Bool
 ofKind true b = white b
 ofKind false b = not (white b)
@@ -32,6 +32,6 @@ unfoldable pub words : List ℕ → List (List ℕ)
 words [] = []
 words (b ∷ bs) = cond (white b) (words bs) (cond (ended bs) ((b ∷ []) ∷ words bs) (extended b (words bs)))
 
--- r is the first word of the text, and none where it has none; rest is what follows it
+-- what `next` gives: r is the first word of the text, and none where it has none; rest is what follows it
 abbrev pub NextWord : List ℕ → Option (RefT (List ℕ)) → List ℕ → Type 0
 NextWord text r rest = Cases r (words text ≡ []) (λ w. words text ≡ w .now ∷ words rest)

@@ -1,4 +1,4 @@
-// What is read of an input that is too long.
+// What is listed of an input that is too long.
 ghost use mathlib.Core.Path.{_≡_};
 ghost use Prim.Native.Nat.{_≤_};
 ghost use lib.ListN.{length};
@@ -17,7 +17,7 @@ fn word_start(text: &[u8], mut end: usize) -> usize
     end
 }
 
-// The whole words of the first `limit` bytes, or all of the input where it is no longer.
+// The longest front of the input, of at most `limit` bytes, past which no word goes on.
 pub(crate) fn kept(input: &[u8], limit: usize) -> &[u8]
     ensures { λ r. ⌜ now r ≡ keptOf limit (now (input .entry)) ⌝ }
 {

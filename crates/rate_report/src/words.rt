@@ -9,7 +9,7 @@ pub(crate) fn is_white(byte: u8) -> bool
     matches!(byte, b' ' | b'\t' | b'\n' | b'\r')
 }
 
-// How many bytes the text begins with that are white space, or, for `false`, that are not.
+// The length of the run that the text begins with: of white space for `true`, of other bytes for `false`.
 fn run_length(text: &[u8], of_white: bool) -> usize
     ensures { λ r. ⌜ r ≡ leading (ofKind «of_white») (now (text .entry)) ⌝ }
 {
