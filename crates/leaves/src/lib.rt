@@ -1,8 +1,6 @@
 // The leaf kinds: symbols and rates.
 mod rate;
 mod symbol;
-#[cfg(test)]
-mod tests;
 
 pub use rate::Rate;
 pub use rate::RateLeaf;

@@ -1,8 +1,6 @@
 // Which rates of a text are the same, as a report that a person can read.
 mod limit;
 mod report;
-#[cfg(test)]
-mod tests;
 mod words;
 
 pub use report::LIMIT;

@@ -2,8 +2,6 @@
 mod leaf;
 mod numbering;
 mod packing;
-#[cfg(test)]
-mod tests;
 
 pub use leaf::Leaf;
 pub use numbering::leaf_number;

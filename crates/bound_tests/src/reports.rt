@@ -1,6 +1,6 @@
-// Whole reports: short inputs as a table, and inputs at the limit.
-use crate::LIMIT;
-use crate::report_on;
+// Whole reports: short inputs, and inputs at the limit.
+use rate_report::LIMIT;
+use rate_report::report_on;
 use std::alloc::AllocError;
 use std::alloc::Global;
 use std::test::*;

@@ -1,5 +1,5 @@
-// Packing at its bounds, as a table.
-use crate::pack;
+// Packing.
+use recipe::pack;
 use std::test::*;
 
 // Bytes, and the number that packs them, if there are few enough.
