@@ -6,9 +6,12 @@ use Rattle.std.specs.Options.{isSome}
 use Rattle.std.specs.declared.option.Option.{Option}
 use Rattle.std.specs.declared.option.Option.the-variants.{None, Some}
 
+pub none-not-some : {X : Type 0} (x : X) → None ≡ Some x → ⊥
+none-not-some x e = both-ways false refl (ap isSome e)
+
 pub chosen : {X : Type 0} (b : Bool) (o : Option X) (x : X) → cond b o None ≡ Some x → (b ≡ true) × (o ≡ Some x)
 chosen true o x e = (refl, e)
-chosen false o x e = absurd (both-ways false refl (ap isSome e))
+chosen false o x e = absurd (none-not-some x e)
 
 pub chosen-some : {X : Type 0} (b : Bool) (y x : X) → cond b (Some y) None ≡ Some x → (b ≡ true) × (y ≡ x)
 chosen-some b y x e =

@@ -40,6 +40,12 @@ pub numeral-from : (most : ℕ) (ds : List ℕ) → Numeral most ds → isNumera
 numeral-from most ds n =
     and-from _ _ (and-from _ _ (le-leb 1 (length ds) (n .some)) (le-leb (length ds) most (n .short))) (n .all)
 
+-- the numerals on both sides of a slash or a point
+pub numeral-pair : (most : ℕ) (n m : List ℕ) → (isNumeral 10 n && isNumeral most m) ≡ true → Numeral 10 n × Numeral most m
+numeral-pair most n m e =
+    let parts = and-parts (isNumeral 10 n) (isNumeral most m) e in
+    (numeral-parts 10 n (parts .0), numeral-parts most m (parts .1))
+
 -- digits after other digits
 after : (n : ℕ) (ds : List ℕ) → valueAfter 10 n ds ≡ n * 10 ^ length ds + value 10 ds
 after n [] = omega arith
@@ -55,7 +61,7 @@ append n (c ∷ cs) ds = append (n * 10 + digitValue c) cs ds
 pub value-append : (cs ds : List ℕ) → value 10 (cs ++ ds) ≡ value 10 cs * 10 ^ length ds + value 10 ds
 value-append cs ds = append 0 cs ds ∙ after (value 10 cs) ds
 
--- the isNumeral ds writes n
+-- the numeral ds writes n
 pub record Writes (most : ℕ) (ds : List ℕ) (n : ℕ) : Type 0 where
   pub passes : isNumeral most ds ≡ true
   pub is : value 10 ds ≡ n

@@ -7,8 +7,7 @@ use native.Mathlib.Omega.{arith}
 use lib.Dec.{eqb, leb}
 use lib.ListN.{length, take, drop}
 use Rattle.std.proofs.shelf.Lists.{append-nil, drop-at, length-append, take-append-drop, take-at}
-use Rattle.std.proofs.shelf.Tests.{and-from, and-parts, both-ways, cond-true, eqb-true, leb-true, le-leb}
-use Rattle.std.specs.Options.{isSome}
+use Rattle.std.proofs.shelf.Tests.{and-from, and-parts, cond-true, eqb-true, leb-true, le-leb}
 use Rattle.std.specs.Reads.{value}
 use Rattle.std.specs.Text.{asciiDigit}
 use Rattle.std.specs.declared.option.Option.{Option}
@@ -16,10 +15,10 @@ use Rattle.std.specs.declared.option.Option.the-variants.{None, Some}
 use Rattle.std.specs.shelf.Lists.{leading}
 use Rattle.leaves.specs.Bytes.{every}
 use Rattle.leaves.specs.RateReading.{isNumeral, ratio, fractionRate, decimalRate, rateAfter, rateOf}
-use Rattle.leaves.specs.Rates.{Form, whole, fraction, decimal, SpellsRate, SpelledBy}
+use Rattle.leaves.specs.Rates.{Form, whole, fraction, decimal, SpellsRate, SpelledBy, largest}
 use Rattle.leaves.specs.declared.rate.Rate.{Rate}
-use Rattle.leaves.proofs.Chosen.{chosen, chosen-some, none-unless}
-use Rattle.leaves.proofs.Numerals.{numeral-parts, numeral-from}
+use Rattle.leaves.proofs.Chosen.{none-not-some, chosen, chosen-some, none-unless}
+use Rattle.leaves.proofs.Numerals.{numeral-parts, numeral-from, numeral-pair}
 
 long-after : (n rest : List ℕ) → 21 < length n + length rest → rateAfter n rest ≡ None
 unfolding rateAfter
@@ -27,8 +26,8 @@ long-after n [] h = none-unless (isNumeral 10 n) _ (λ e. omega (arith, numeral-
 long-after n (b ∷ m) h = two (eqb b 47) (eqb b 46)
   where
     two : (slash point : Bool) → cond slash (fractionRate n m) (cond point (decimalRate n m) None) ≡ None
-    two true p = none-unless (isNumeral 10 n && isNumeral 10 m) _ (λ e. let parts = and-parts (isNumeral 10 n) (isNumeral 10 m) e in omega (arith, numeral-parts 10 n (parts .0), numeral-parts 10 m (parts .1)))
-    two false true = none-unless (isNumeral 10 n && isNumeral 6 m) _ (λ e. let parts = and-parts (isNumeral 10 n) (isNumeral 6 m) e in omega (arith, numeral-parts 10 n (parts .0), numeral-parts 6 m (parts .1)))
+    two true p = none-unless (isNumeral 10 n && isNumeral 10 m) _ (λ e. omega (arith, numeral-pair 10 n m e))
+    two false true = none-unless (isNumeral 10 n && isNumeral 6 m) _ (λ e. omega (arith, numeral-pair 6 n m e))
     two false false = refl
 
 -- digits that something else follows
@@ -57,16 +56,16 @@ form-read (decimal {n} {f} a b) =
 -- a ratio within the limits
 limits : (word : List ℕ) (n d : ℕ) (x : Rate) → Form word n d → ratio n d ≡ Some x → SpellsRate word x
 limits word n d x form e =
-    let gave = chosen-some ((leb n 2147483647 && leb 1 d) && leb d 2147483647) (record { numerator = n; denominator = d }) x e in
-    let outer = and-parts (leb n 2147483647 && leb 1 d) (leb d 2147483647) (gave .0) in
-    let inner = and-parts (leb n 2147483647) (leb 1 d) (outer .0) in
+    let gave = chosen-some ((leb n largest && leb 1 d) && leb d largest) (record { numerator = n; denominator = d }) x e in
+    let outer = and-parts (leb n largest && leb 1 d) (leb d largest) (gave .0) in
+    let inner = and-parts (leb n largest) (leb 1 d) (outer .0) in
     let top : n ≡ x .numerator = ap (λ r. r .numerator) (gave .1) in
     let bottom : d ≡ x .denominator = ap (λ r. r .denominator) (gave .1) in
     record {
       form = subst₂ (Form word) top bottom form;
-      top = omega (arith, leb-true n 2147483647 (inner .0));
+      top = omega (arith, leb-true n largest (inner .0));
       nonzero = omega (arith, leb-true 1 d (inner .1));
-      bottom = omega (arith, leb-true d 2147483647 (outer .1));
+      bottom = omega (arith, leb-true d largest (outer .1));
     }
 
 after-spells : (n rest : List ℕ) (x : Rate) → rateAfter n rest ≡ Some x → SpellsRate (n ++ rest) x
@@ -79,19 +78,19 @@ after-spells n (b ∷ m) x e = by-mark (eqb b 47) (eqb b 46) refl refl e
     by-mark : (slash point : Bool) → eqb b 47 ≡ slash → eqb b 46 ≡ point → cond slash (fractionRate n m) (cond point (decimalRate n m) None) ≡ Some x → SpellsRate (n ++ b ∷ m) x
     by-mark true point is other e =
         let gave = chosen (isNumeral 10 n && isNumeral 10 m) (ratio (value 10 n) (value 10 m)) x e in
-        let parts = and-parts (isNumeral 10 n) (isNumeral 10 m) (gave .0) in
+        let parts = numeral-pair 10 n m (gave .0) in
         subst (λ c. SpellsRate (n ++ c ∷ m) x) (sym (eqb-true b 47 is))
-        (limits (n ++ 47 ∷ m) (value 10 n) (value 10 m) x (fraction (numeral-parts 10 n (parts .0)) (numeral-parts 10 m (parts .1))) (gave .1))
+        (limits (n ++ 47 ∷ m) (value 10 n) (value 10 m) x (fraction (parts .0) (parts .1)) (gave .1))
     by-mark false true other is e =
         let gave = chosen (isNumeral 10 n && isNumeral 6 m) (ratio (value 10 (n ++ m)) (10 ^ length m)) x e in
-        let parts = and-parts (isNumeral 10 n) (isNumeral 6 m) (gave .0) in
+        let parts = numeral-pair 6 n m (gave .0) in
         subst (λ c. SpellsRate (n ++ c ∷ m) x) (sym (eqb-true b 46 is))
-        (limits (n ++ 46 ∷ m) (value 10 (n ++ m)) (10 ^ length m) x (decimal (numeral-parts 10 n (parts .0)) (numeral-parts 6 m (parts .1))) (gave .1))
-    by-mark false false other also e = absurd (both-ways false refl (ap isSome e))
+        (limits (n ++ 46 ∷ m) (value 10 (n ++ m)) (10 ^ length m) x (decimal (parts .0) (parts .1)) (gave .1))
+    by-mark false false other also e = absurd (none-not-some x e)
 
 spells-read : (word : List ℕ) (x : Rate) → SpellsRate word x → rateOf word ≡ Some x
 spells-read word x s =
-    form-read (s .form) ∙ cond-true _ _ _ (and-from _ _ (and-from _ _ (le-leb (x .numerator) 2147483647 (s .top)) (le-leb 1 (x .denominator) (s .nonzero))) (le-leb (x .denominator) 2147483647 (s .bottom)))
+    form-read (s .form) ∙ cond-true _ _ _ (and-from _ _ (and-from _ _ (le-leb (x .numerator) largest (s .top)) (le-leb 1 (x .denominator) (s .nonzero))) (le-leb (x .denominator) largest (s .bottom)))
 
 -- the rate that is read is the one that the word spells
 pub spelled-by : (word : List ℕ) (r : Option Rate) → r ≡ rateOf word → SpelledBy word r

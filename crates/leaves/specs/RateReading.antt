@@ -17,7 +17,7 @@ use Rattle.leaves.specs.declared.rate.Rate.{Rate}
 abbrev pub isNumeral : ℕ → List ℕ → Bool
 isNumeral most ds = (leb 1 (length ds) && leb (length ds) most) && every asciiDigit ds
 
--- the number that a isNumeral writes
+-- the number that a numeral writes
 abbrev pub numeralOf : ℕ → List ℕ → Option ℕ
 numeralOf most ds = cond (isNumeral most ds) (Some (value 10 ds)) None
 
@@ -33,7 +33,7 @@ wholeRate n = cond (isNumeral 10 n) (ratio (value 10 n) 1) None
 abbrev pub fractionRate : List ℕ → List ℕ → Option Rate
 fractionRate n d = cond (isNumeral 10 n && isNumeral 10 d) (ratio (value 10 n) (value 10 d)) None
 
--- the spelling n.f: its digits without the point, over a power of ten
+-- the spelling n.f: a decimal
 abbrev pub decimalRate : List ℕ → List ℕ → Option Rate
 decimalRate n f = cond (isNumeral 10 n && isNumeral 6 f) (ratio (value 10 (n ++ f)) (10 ^ length f)) None
 

@@ -19,7 +19,7 @@ pub record Numeral (most : ℕ) (ds : List ℕ) : Type 0 where
   pub short : length ds ≤ most
   pub all : every asciiDigit ds ≡ true
 
--- a word that is n, n/d (47 is the slash) or n.f (46 is the point), with its numerator and denominator; a decimal is its digits without the point over a power of ten
+-- a word that is n, n/d (47 is the slash) or n.f (46 is the point), with its numerator and denominator; of n.f these are the digits joined, and 10 to the number of digits of f
 pub data Form : List ℕ → ℕ → ℕ → Type 0 where
   whole : {n : List ℕ} → Numeral 10 n → Form n (value 10 n) 1
   fraction : {n d : List ℕ} → Numeral 10 n → Numeral 10 d → Form (n ++ 47 ∷ d) (value 10 n) (value 10 d)

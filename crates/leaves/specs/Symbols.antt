@@ -16,11 +16,11 @@ use Rattle.leaves.specs.declared.symbol.Symbol.{Symbol}
 abbrev pub nameByte : ℕ → Bool
 nameByte b = asciiLower b || asciiDigit b || eqb b 45
 
--- up to seven such bytes
+-- the tail of a name: at most seven such bytes
 abbrev pub isTail : List ℕ → Bool
 isTail bs = leb (length bs) 7 && every nameByte bs
 
--- a lower-case letter and up to seven such bytes
+-- a name: one lower-case letter, and then a tail
 abbrev pub isName : List ℕ → Bool
 isName [] = false
 isName (b ∷ bs) = asciiLower b && isTail bs
@@ -30,7 +30,7 @@ abbrev pub symbolOf : List ℕ → Option Symbol
 symbolOf [] = None
 symbolOf (b ∷ name) = cond (eqb b 39 && isName name) (Some (record { packed = packed name })) None
 
--- two symbols are the same when their bytes are equal
+-- sameness of symbols: equal packed names
 abbrev pub sameSymbol : Symbol → Symbol → Bool
 sameSymbol x y = eqb (x .packed) (y .packed)
 

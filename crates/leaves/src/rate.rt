@@ -44,11 +44,14 @@ fn numeral(digits: &[u8], most: usize) -> Option<u64>
     Some(value)
 }
 
-// The rate of the two numbers, where both are within the limits.
+// The largest numerator and denominator of a rate that is read.
+const LARGEST: u64 = 2_147_483_647;
+
+// The rate of the two numbers, where neither is too large and the denominator is not 0.
 fn ratio(numerator: u64, denominator: u64) -> Option<Rate>
     ensures { λ r. ⌜ r ≡ ratioOf numerator denominator ⌝ }
 {
-    if numerator > 2_147_483_647 || denominator < 1 || denominator > 2_147_483_647 {
+    if numerator > LARGEST || denominator < 1 || denominator > LARGEST {
         return None;
     }
     Some(Rate {

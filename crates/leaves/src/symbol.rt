@@ -30,14 +30,14 @@ fn are_name_bytes(bytes: &[u8]) -> bool
     true
 }
 
-// Whether the bytes are up to seven that may follow the first one of a name.
+// Whether the bytes are the tail of a name: at most seven, each of which may follow its first byte.
 fn is_tail(bytes: &[u8]) -> bool
     ensures { λ r. ⌜ r ≡ isTail (now (bytes .entry)) ⌝ }
 {
     bytes.len() <= 7 && are_name_bytes(bytes)
 }
 
-// Whether the bytes are a lower-case letter and up to seven lower-case letters, digits or hyphens.
+// Whether the bytes are a name: one lower-case letter, and then a tail.
 fn is_name(bytes: &[u8]) -> bool
     ensures { λ r. ⌜ r ≡ isName (now (bytes .entry)) ⌝ }
 {

@@ -89,7 +89,6 @@ First s n = words s ≡ take n s ∷ words (drop n s)
 pub words-first : (s : List ℕ) → 0 < leading (ofKind false) s → First s (leading (ofKind false) s)
 words-first [] some = absurd (omega arith)
 words-first (b ∷ bs) some =
-    let n = leading (ofKind false) bs in
     elim (cases-bool (white b)) [
       | inl e ↦ absurd (omega (arith, leading-no (ofKind false) b bs (ap not e)))
       | inr e ↦ subst (First (b ∷ bs)) (sym (leading-yes (ofKind false) b bs (ap not e))) (elim (cases-bool (ended bs)) [

@@ -29,10 +29,6 @@ last-push (c ∷ d ∷ ds) b e = last-push (d ∷ ds) b e
 abbrev pub Apart : List ℕ → List ℕ → Type 0
 Apart s t = (ended t || lastWhite s) ≡ true
 
-apart-tail : (b : ℕ) (bs t : List ℕ) → Apart (b ∷ bs) t → Apart bs t
-apart-tail b [] t e = or-right (ended t) true refl
-apart-tail b (c ∷ cs) t e = e
-
 extended-append : (b : ℕ) (w : List ℕ) (ws xs ys : List (List ℕ)) → xs ≡ w ∷ ws → extended b (xs ++ ys) ≡ extended b xs ++ ys
 extended-append b w ws xs ys e = rw e refl
 
@@ -46,7 +42,6 @@ words-apart (b ∷ []) t e =
     ]
 words-apart (b ∷ c ∷ cs) t e =
     let more = words-apart (c ∷ cs) t e in
-    let both = λ (x y : List (List ℕ)). x ++ y in
     elim (cases-bool (white b)) [
       | inl h ↦ words-white b (c ∷ cs ++ t) h ∙ more ∙ sym (ap (λ ws. ws ++ words t) (words-white b (c ∷ cs) h))
       | inr h ↦ elim (cases-bool (white c)) [
@@ -55,7 +50,7 @@ words-apart (b ∷ c ∷ cs) t e =
       ]
     ]
 
--- one step lastBreak from a byte that is no white space, and a stop after one that is
+-- one step back from a byte that is no white space, and a stop after one that is
 pub break-on : (s : List ℕ) (n : ℕ) → 0 < n → white (getD s (n - 1) 0) ≡ false → lastBreak s (n - 1) ≡ lastBreak s n
 unfolding lastBreak
 break-on s zero h e = absurd (omega arith)

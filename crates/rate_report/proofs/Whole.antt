@@ -1,12 +1,11 @@
 -- The report as a whole: its parts put together, and what the numbers in it tell. Assumes nothing.
 use mathlib.Core.Path.{_≡_, refl, sym, ap, ap₂, _∙_}
-use mathlib.Core.Bool.{true, false}
+use mathlib.Core.Bool.{true}
 use mathlib.Core.List.{List, [], _∷_, _++_}
 use Prim.Native.Nat.{ℕ, zero, suc, _+_, _<_}
 use native.Mathlib.Omega.{arith}
 use lib.ListN.{length, getD}
 use Rattle.std.proofs.shelf.Lists.{getD-append-add, length-append}
-use Rattle.std.proofs.shelf.Tests.{both-ways}
 use Rattle.std.specs.Options.{isSome}
 use Rattle.std.specs.Vec.{listOf}
 use Rattle.std.specs.declared.option.Option.{Option}
@@ -16,6 +15,7 @@ use Rattle.recipe.proofs.Numbers.{number-lowest, number-tells, listed}
 use Rattle.leaves.specs.RateReading.{rateOf}
 use Rattle.leaves.specs.Rates.{sameRate}
 use Rattle.leaves.specs.declared.rate.Rate.{Rate}
+use Rattle.leaves.proofs.Chosen.{none-not-some}
 use Rattle.leaves.proofs.CrossProducts.{rate-sameness}
 use Rattle.rate_report.specs.Limit.{kept}
 use Rattle.rate_report.specs.Report.{ratesOf, numberIn, lines, warning, summary, reportOf, wordNumber, WordsTell}
@@ -41,7 +41,7 @@ in-later o xs x at = (
 )
 
 in-first : (o : Option Rate) (xs : List Rate) (x : Rate) → o ≡ Some x → In x (listOf o ++ xs)
-in-first None xs x e = absurd (both-ways false refl (ap isSome e))
+in-first None xs x e = absurd (none-not-some x e)
 in-first (Some y) xs x e = (0, omega arith, cc)
 
 spelled-listed : (ws : List (List ℕ)) (k : ℕ) (x : Rate) → k < length ws → rateOf (getD ws k []) ≡ Some x → In x (ratesOf ws)

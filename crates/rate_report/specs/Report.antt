@@ -43,7 +43,7 @@ firsts rates i (x ∷ xs) = cond (isOwn i (numberOf sameRate rates x)) 1 0 + fir
 abbrev pub different : List Rate → ℕ
 different rates = firsts rates 0 rates
 
--- what is said of a word: the number of its rate, or that it is none
+-- what is said of a word: the number of its rate, or that it spells none
 abbrev pub verdict : Option ℕ → List ℕ
 verdict None = codes " no rate"
 verdict (Some n) = codes " rate " ++ decimal n
