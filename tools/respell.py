@@ -64,6 +64,13 @@ def is_ours(name):
     return re.match(r"^[a-z]", name) and re.search(r"[a-z][A-Z]|-", name) and not MADE.search(name)
 
 
+def brought(top):
+    """The names that `use` lines bring from other libraries."""
+    ours = "|".join(sorted(d for d in os.listdir(os.path.join(top, "crates"))))
+    line = re.compile(r"^\s*(?:ghost |pub )?use (?!Rattle\.(?:" + ours + r")\.)[^{]*\{(.*)\}", re.M)
+    return {n.strip().split(" as ")[0] for path in texts(top, (".antt", ".rt")) for m in line.finditer(read(path)) for n in m[1].split(",")}
+
+
 def declared(top):
     """The names that are declared at the start of a line, by `let` or `as`, or as a parameter, and that have another spelling."""
     names = set()
@@ -74,7 +81,7 @@ def declared(top):
                 names.update(n for n in ([found[1]] if found else []) + BOUND.findall(line) if is_ours(n))
             elif line.startswith(("use ", "ghost use ")):
                 names.update(n for n in re.findall(r" as ([a-z]\w*)", line) if is_ours(n))
-    return names
+    return names - brought(top)
 
 
 def collisions(top, new):

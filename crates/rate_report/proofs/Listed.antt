@@ -1,5 +1,5 @@
 -- The rates and the lines of a list of words, one word more at a time. Assumes nothing.
-use Rattle.std.proofs.Common.{◌≡◌, ℕ, ◌+◌, ◌<◌, Bool, cond, List, [], ◌∷◌, ◌++◌, length, get_or, drop, Option, sym, refl, ap, ◌∙◌, ap₂, add_one}
+use Rattle.std.proofs.Common.{◌≡◌, ℕ, ◌+◌, ◌<◌, Bool, cond, List, [], ◌∷◌, ◌++◌, length, get_or, drop, Option, sym, refl, ap, ◌∙◌, ap₂, add-one}
 use Rattle.std.proofs.lemmas.List.{at_drop_more}
 use Rattle.std.specs.Option.{option_to_list}
 use Rattle.recipe.specs.Numbering.{number_of}
@@ -21,7 +21,7 @@ pub firsts_more : (rates : List Rate) (i : ℕ) (d : Rate) (own : Bool) → i < 
 unfolding firsts
 firsts_more rates i d own h is =
     let rest = drop (i + 1) rates in
-    at_drop_more (firsts rates i) rates i d h ∙ ap₂ (λ b k. cond b 1 0 + firsts rates k rest) (sym is) (sym (add_one i))
+    at_drop_more (firsts rates i) rates i d h ∙ ap₂ (λ b k. cond b 1 0 + firsts rates k rest) (sym is) (sym (add-one i))
 
 pub firsts_none : (rates : List Rate) (i : ℕ) → firsts rates i [] ≡ 0
 unfolding firsts
@@ -29,7 +29,7 @@ firsts_none rates i = refl
 
 pub lines_more : (rates : List Rate) (i : ℕ) (ws : List (List ℕ)) (w : List ℕ) (rest : List (List ℕ)) → ws ≡ w ∷ rest → lines rates i ws ≡ line rates i w ++ lines rates (i + 1) rest
 unfolding lines
-lines_more rates i ws w rest e = ap (lines rates i) e ∙ ap (λ k. line rates i w ++ lines rates k rest) (sym (add_one i))
+lines_more rates i ws w rest e = ap (lines rates i) e ∙ ap (λ k. line rates i w ++ lines rates k rest) (sym (add-one i))
 
 pub lines_none : (rates : List Rate) (i : ℕ) (ws : List (List ℕ)) → ws ≡ [] → lines rates i ws ≡ []
 unfolding lines

@@ -1,5 +1,5 @@
 -- What one pass over a table marks tells the faults of its places. Assumes nothing.
-use Rattle.std.proofs.Common.{◌≡◌, ℕ, zero, suc, ◌+◌, ◌<◌, ◌≤◌, Bool, true, false, cond, eqb, ltb, leb, List, [], ◌∷◌, length, get_or, set, replicate, is_some, Some, None, Option, unwrap_or, sym, refl, ap, ◌∙◌, ap₂, subst₂, inl, inr, add-zero, add_one, arith}
+use Rattle.std.proofs.Common.{◌≡◌, ℕ, zero, suc, ◌+◌, ◌<◌, ◌≤◌, Bool, true, false, cond, eqb, ltb, leb, List, [], ◌∷◌, length, get_or, set, replicate, is_some, Some, None, Option, unwrap_or, sym, refl, ap, ◌∙◌, ap₂, subst₂, inl, inr, add-zero, add-one, arith}
 use mathlib.Core.Path.{fun_ext}
 use Rattle.std.proofs.lemmas.List.{length-set, get_or-set_same, get_or-set_other}
 use Rattle.std.proofs.lemmas.Option.{slice_get-get_or}
@@ -79,7 +79,7 @@ held_among_same f g same xs = ap (λ t. held_among t xs) (fun_ext same)
 -- the depth below a binder, or below none
 extended_depth : (u : Option ℕ) (Φ : Scope) → length Φ + deeper u ≡ length (extended u Φ)
 extended_depth None Φ = add-zero (length Φ)
-extended_depth (Some a) Φ = add_one (length Φ)
+extended_depth (Some a) Φ = add-one (length Φ)
 
 -- a mark at a place leaves the other parts free
 still_free : (marks : List (Option ℕ)) (i : ℕ) (v : Option ℕ) (xs : List (Part ℕ)) → any_part (λ y. is_marked marks y.at) xs ≡ false → any_part (λ y. eqb y.at i) xs ≡ false → any_part (λ y. is_marked (set marks i v) y.at) xs ≡ false
@@ -178,7 +178,7 @@ module _ {L : Type 0} (places : List Place) (ls : List L) (p : ℕ) (low : p < l
 
     -- one more place without a fault
     pub none_told : first_below (fault_at places ls) p ≡ None → first_below (fault_at places ls) (p + 1) ≡ None
-    none_told before = rw (add_one, first_more (fault_at places ls) p, before) (sym fault_told ∙ none)
+    none_told before = rw (add-one, first_more (fault_at places ls) p, before) (sym fault_told ∙ none)
 
     -- a place without a fault is not too deep
     pub told_shallow : marked_depth marks p ≤ 64
@@ -193,6 +193,6 @@ module _ {L : Type 0} (places : List Place) (ls : List L) (p : ℕ) (low : p < l
     -- the marks after a place without a fault
     pub told_more : length places ≤ 512 → length marks ≡ 512 → (d : ℕ) (next : List (Option ℕ)) → d ≡ marked_depth marks p → next ≡ marked d (parts_of x) marks → MarksTell T (p + 1) next
     told_more few long d next deep is =
-        subst₂ (MarksTell T) (sym (add_one p))
+        subst₂ (MarksTell T) (sym (add-one p))
         (ap₂ (λ e xs. marked e xs marks) (sym (deep ∙ told_depth T p marks tell)) form_parts ∙ sym is)
         (tell_more T p marks tell (rw (long, form_parts) (told_within few)) (rw form_parts tests.once))

@@ -5,7 +5,7 @@ use crate::leaf::Leaf;
 
 // The lowest index of a leaf of `leaves` that is the same as `leaf`, or none.
 fn first_same<L: Leaf>(leaves: &[L], leaf: &L) -> Option<usize>
-    ensures { Lowest equates leaves.now leaf.now result }
+    ensures { Lowest L.equates leaves.now leaf.now result }
 {
     for i in 0..leaves.len() {
         if leaves[i].same(leaf) {
@@ -18,7 +18,7 @@ fn first_same<L: Leaf>(leaves: &[L], leaf: &L) -> Option<usize>
 // The number of `leaf` in `leaves`: the lowest index of a same leaf, or none. A leaf of the list has one,
 // and two of them have the same number exactly when they are the same.
 pub fn leaf_number<L: Leaf>(leaves: &[L], leaf: &L) -> Option<usize>
-    ensures { Numbered equates leaves.now leaf.now result }
+    ensures { Numbered L.equates leaves.now leaf.now result }
 {
     first_same(leaves, leaf)
 }
