@@ -5,11 +5,11 @@ use Rattle.rate_report.proofs.limit.word_start.Goals as goal
 
 pub loop-end-preserved : goal.loop-end-preserved
 loop-end-preserved c =
-    (omega arith, break_on c.args.text.now c.loop-end.end c.loop-end-test.true (sym c.if-not-is-white.ensures) ∙ c.loop-end.invariant.1)
+    (omega arith, break_on c.args.text.now c.loop-end.end c.loop-end-test.true (sym c.if-not-is_white.ensures) ∙ c.loop-end.invariant.1)
 
-pub returns-else-not-is-white : goal.returns-else-not-is-white
-returns-else-not-is-white c = record {
-  start = sym (break_here c.args.text.now c.loop-end.end c.loop-end-test.true (sym c.if-not-is-white.ensures)) ∙ c.loop-end.invariant.1;
+pub returns-else-not-is_white : goal.returns-else-not-is_white
+returns-else-not-is_white c = record {
+  start = sym (break_here c.args.text.now c.loop-end.end c.loop-end-test.true (sym c.if-not-is_white.ensures)) ∙ c.loop-end.invariant.1;
   within = c.loop-end.invariant.0;
 }
 

@@ -10,7 +10,7 @@ returns c =
     let index = decimal c.args.index in
     let word = c.args.word.now in
     let told = verdict (number_in c.args.rates.now (rate_of word)) in
-    let space = more start index (codes " ") c.in-ok-add-number.ensures c.in-ok-extend-from-slice.ensures.items in
-    let spelled = more start (index ++ codes " ") word space c.in-ok-extend-from-slice-2.ensures.items in
-    let said = more_as start (index ++ codes " " ++ word) told (verdict c.number-of.result) spelled c.in-ok-add-verdict.ensures (ap verdict c.number-of.ensures) in
-    more start (index ++ codes " " ++ word ++ told) (codes "\n") said c.in-ok-extend-from-slice-3.ensures.items
+    let space = more start index (codes " ") c.in_ok-add_number.ensures c.in_ok-extend_from_slice.ensures.items in
+    let spelled = more start (index ++ codes " ") word space c.in_ok-extend_from_slice-2.ensures.items in
+    let said = more_as start (index ++ codes " " ++ word) told (verdict c.number_of.result) spelled c.in_ok-add_verdict.ensures (ap verdict c.number_of.ensures) in
+    more start (index ++ codes " " ++ word ++ told) (codes "\n") said c.in_ok-extend_from_slice-3.ensures.items

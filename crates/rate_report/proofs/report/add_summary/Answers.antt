@@ -12,9 +12,9 @@ returns c =
     let d = b ++ codes ", rates " in
     let e = d ++ decimal (length rates) in
     let f = e ++ codes ", different rates " in
-    let to_b = more start a _ c.in-ok-extend-from-slice.ensures.items c.in-ok-add-number.ensures in
-    let to_d = more start b _ to_b c.in-ok-extend-from-slice-2.ensures.items in
-    let to_e = more start d _ to_d c.in-ok-add-number-2.ensures in
-    let to_f = more start e _ to_e c.in-ok-extend-from-slice-3.ensures.items in
-    let to_g = more_as start f (decimal (different rates)) (decimal c.different.result) to_f c.in-ok-add-number-3.ensures (ap decimal c.different.ensures) in
-    more start (f ++ decimal (different rates)) _ to_g c.in-ok-extend-from-slice-4.ensures.items
+    let to_b = more start a _ c.in_ok-extend_from_slice.ensures.items c.in_ok-add_number.ensures in
+    let to_d = more start b _ to_b c.in_ok-extend_from_slice-2.ensures.items in
+    let to_e = more start d _ to_d c.in_ok-add_number-2.ensures in
+    let to_f = more start e _ to_e c.in_ok-extend_from_slice-3.ensures.items in
+    let to_g = more_as start f (decimal (different rates)) (decimal c.different.result) to_f c.in_ok-add_number-3.ensures (ap decimal c.different.ensures) in
+    more start (f ++ decimal (different rates)) _ to_g c.in_ok-extend_from_slice-4.ensures.items

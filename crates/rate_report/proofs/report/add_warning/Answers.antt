@@ -8,6 +8,6 @@ returns c =
     let start = vec_items c.args.out.now in
     let begin = codes "too much input: only the whole words of the first " in
     let limit = decimal c.args.limit in
-    let numbered = more start begin limit c.in-ok-extend-from-slice.ensures.items c.in-ok-add-number.ensures in
-    more start (begin ++ limit) (codes " bytes are listed\n") numbered c.in-ok-extend-from-slice-2.ensures.items
+    let numbered = more start begin limit c.in_ok-extend_from_slice.ensures.items c.in_ok-add_number.ensures in
+    more start (begin ++ limit) (codes " bytes are listed\n") numbered c.in_ok-extend_from_slice-2.ensures.items
     ∙ ap (λ l. start ++ l) (sym (cond-true _ _ _ (lt-ltb c.args.limit (length c.args.input.now) c.if-input-limit.false)))

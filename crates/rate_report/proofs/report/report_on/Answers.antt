@@ -10,10 +10,10 @@ use Rattle.rate_report.proofs.report.report_on.Goals as goal
 pub returns : goal.returns
 returns c =
     let input = c.args.input.now in
-    let read = c.in-ok-rates.ensures in
+    let read = c.in_ok-rates.ensures in
     let front = keeps 65536 input in
     record {
-      bytes = assembled 65536 input c.kept-text.result.now c.in-ok-words.words _ _ c.kept-text.ensures (c.as-slice.ensures.value ∙ read) (c.as-slice-2.ensures.value ∙ read) c.in-ok-words.ensures.count c.new-out.ensures.items c.in-ok-words.ensures.lines c.in-ok-add-warning.ensures c.in-ok-add-summary.ensures;
+      bytes = assembled 65536 input c.kept-text.result.now c.in_ok-words.words _ _ c.kept-text.ensures (c.as_slice.ensures.value ∙ read) (c.as_slice-2.ensures.value ∙ read) c.in_ok-words.ensures.count c.new-out.ensures.items c.in_ok-words.ensures.lines c.in_ok-add_warning.ensures c.in_ok-add_summary.ensures;
       front = front;
       first = first_words 65536 input (kept 65536 input) front;
       spelled = λ word. spelled_by word (rate_of word) refl;

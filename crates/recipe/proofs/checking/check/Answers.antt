@@ -10,5 +10,5 @@ returns-in-Some g c =
 
 pub returns-in-None : goal.returns-in-None
 returns-in-None g c =
-    let is : Ok c.needed-memory.result ≡ checked c.args.places.now c.args.leaves.now = search rules in
-    record { value = is; valid = answer_valid c.args.places.now c.args.leaves.now (Ok c.needed-memory.result) is }
+    let is : Ok c.needed_memory.result ≡ checked c.args.places.now c.args.leaves.now = search rules in
+    record { value = is; valid = answer_valid c.args.places.now c.args.leaves.now (Ok c.needed_memory.result) is }

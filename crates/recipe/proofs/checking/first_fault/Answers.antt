@@ -12,18 +12,18 @@ pub returns-in-Some : goal.returns-in-Some
 returns-in-Some g c =
     first_told c.args.places.now c.args.leaves.now c.loop-p.p c.loop-p-test.true c.loop-p.marks c.loop-p.invariant.2 c.in-Some.refusal c.loop-p.invariant.1 (sym c.fault.ensures ∙ c.in-Some.is)
 
-pub mark-parts-requires : goal.mark-parts-requires
-mark-parts-requires g c =
-    let none = sym c.fault.ensures ∙ c.in-default.is in
+pub mark_parts-requires : goal.mark_parts-requires
+mark_parts-requires g c =
+    let none = sym c.fault.ensures ∙ c.in_default.is in
     record {
-      deep = rw c.unwrap-or.ensures (told_shallow c.args.places.now c.args.leaves.now c.loop-p.p c.loop-p-test.true c.loop-p.marks c.loop-p.invariant.2 none);
+      deep = rw c.unwrap_or.ensures (told_shallow c.args.places.now c.args.leaves.now c.loop-p.p c.loop-p-test.true c.loop-p.marks c.loop-p.invariant.2 none);
       within = told_within c.args.places.now c.args.leaves.now c.loop-p.p c.loop-p-test.true c.loop-p.marks c.loop-p.invariant.2 none c.requires;
     }
 
 pub loop-p-preserved : goal.loop-p-preserved
 loop-p-preserved g c =
-    let none = sym c.fault.ensures ∙ c.in-default.is in (
-      c.mark-parts.array_long,
+    let none = sym c.fault.ensures ∙ c.in_default.is in (
+      c.mark_parts.array_long,
       none_told c.args.places.now c.args.leaves.now c.loop-p.p c.loop-p-test.true c.loop-p.marks c.loop-p.invariant.2 none c.loop-p.invariant.1,
-      told_more c.args.places.now c.args.leaves.now c.loop-p.p c.loop-p-test.true c.loop-p.marks c.loop-p.invariant.2 none c.requires c.loop-p.invariant.0 c.unwrap-or.result c.mark-parts.new.marks c.unwrap-or.ensures c.mark-parts.ensures,
+      told_more c.args.places.now c.args.leaves.now c.loop-p.p c.loop-p-test.true c.loop-p.marks c.loop-p.invariant.2 none c.requires c.loop-p.invariant.0 c.unwrap_or.result c.mark_parts.new.marks c.unwrap_or.ensures c.mark_parts.ensures,
     )

@@ -10,8 +10,8 @@ loop-place-preserved c =
     let xs = c.args.places.now in
     let i = c.loop-place.place-index in
     let e : max n (name_count (drop i xs)) ≡ max n (max (above_name (get_or xs i past)) (name_count (drop (i + 1) xs))) = at_drop_more (λ ys. max n (name_count ys)) xs i past c.loop-place-test.true in
-    let m : c.max-count.result ≡ max n c.above-name.result = c.max-count.ensures in
-    omega (arith, c.above-name.ensures.value, c.above-name.ensures.bound)
+    let m : c.max-count.result ≡ max n c.above_name.result = c.max-count.ensures in
+    omega (arith, c.above_name.ensures.value, c.above_name.ensures.bound)
 
 pub returns : goal.returns
 returns c =

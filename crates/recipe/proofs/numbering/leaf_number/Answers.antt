@@ -9,4 +9,4 @@ returns g c =
       symmetric = g.met.L.Leaf.symmetric;
       transitive = g.met.L.Leaf.transitive;
     } in
-    numbered g.L.Leaf.equates laws c.args.leaves.now c.args.leaf.now c.first-same.result c.first-same.ensures
+    numbered g.L.Leaf.equates laws c.args.leaves.now c.args.leaf.now c.first_same.result c.first_same.ensures

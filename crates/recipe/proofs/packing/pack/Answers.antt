@@ -6,7 +6,7 @@ use Rattle.recipe.proofs.PackedOnce.{packed_once}
 use Rattle.recipe.proofs.packing.pack.Goals as goal
 
 -- the word holds the bytes, and zeros where there is none
-same_bytes : (c : goal.After-from-be-bytes) (k : ℕ) → get_or c.loop-i.word k 0 ≡ get_or c.args.bytes.now k 0
+same_bytes : (c : goal.After-from_be_bytes) (k : ℕ) → get_or c.loop-i.word k 0 ≡ get_or c.args.bytes.now k 0
 same_bytes c k =
     ⊎_elim (c.loop-i.invariant.1 k) (λ h. c.loop-i.invariant.2 k h ∙ sym (get_or_past c.args.bytes.now k 0 (omega arith))) (cases_lt k c.loop-i.i)
 
@@ -23,7 +23,7 @@ pub returns : goal.returns
 unfolding packed
 returns c =
     let s = same_bytes c in
-    let is : c.from-be-bytes.result ≡ packed c.args.bytes.now = omega (arith, c.from-be-bytes.ensures, s 0, s 1, s 2, s 3, s 4, s 5, s 6, s 7) in
+    let is : c.from_be_bytes.result ≡ packed c.args.bytes.now = omega (arith, c.from_be_bytes.ensures, s 0, s 1, s 2, s 3, s 4, s 5, s 6, s 7) in
     record {
       value = ap Some is ∙ sym (cond-true _ _ _ (le-leb (length c.args.bytes.now) 8 (omega arith)));
       once = once c.args.bytes.now;
