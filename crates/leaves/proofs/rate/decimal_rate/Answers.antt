@@ -13,13 +13,13 @@ low : (c : After-pow-scale) → Writes 6 c.args.decimals.now c.in_ok-low.low
 low c = writes 6 c.args.decimals.now c.in_ok-low.low c.in_ok-low.ensures
 
 product : (c : After-pow-scale) → c.in_ok-high.high * c.pow-scale.result ≤ 10 ^ 16
-product c = rw c.pow-scale.ensures (scaled c.in_ok-high.high (length c.args.decimals.now) (high c).ranges (low c).short)
+product c = rw c.pow-scale.ensures (scaled c.in_ok-high.high (length c.args.decimals.now) (high c).fits (low c).short)
 
 pub overflow_mul-high : goal.overflow_mul-high
 overflow_mul-high c = omega (arith, product c)
 
 pub overflow_add-high : goal.overflow_add-high
-overflow_add-high c = omega (arith, product c, (low c).ranges)
+overflow_add-high c = omega (arith, product c, (low c).fits)
 
 pub returns : goal.returns
 returns c =
