@@ -4,8 +4,8 @@ use Rattle.rate_report.specs.Words.{words}
 use Rattle.rate_report.proofs.Listed.{rates_more, rates_none}
 use Rattle.rate_report.proofs.report.rates_of.Goals as goal
 
-pub loop-word-preserved-in-Continue· : goal.loop-word-preserved-in-Continue·
-loop-word-preserved-in-Continue· c =
+pub loop-word-preserved-in-Continue-1 : goal.loop-word-preserved-in-Continue-1
+loop-word-preserved-in-Continue-1 c =
     let rest = words c.next.new.self.rest.now in
     let rate = c.in-Some-read.rate in
     let more = rates_more _ _ rest (Some rate) c.in-Some.ensures c.in-Some-read.ensures.value in

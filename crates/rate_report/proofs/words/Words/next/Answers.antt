@@ -21,7 +21,7 @@ pub returns-then-is_empty : goal.returns-then-is_empty
 returns-then-is_empty c =
     let text = c.args.self.now.rest.now in
     let empty = eqb-true _ 0 (sym c.if-is_empty.ensures) in
-    let stop : prefix_len (of_kind false) c.split_at.result.1.now ≡ 0 = omega (arith, c.run_length-2.ensures, c.split_at-2.ensures.front-len, empty) in
+    let stop : prefix_len (of_kind false) c.split_at.result.1.now ≡ 0 = omega (arith, c.run_length-2.ensures, c.split_at-2.ensures.front_len, empty) in
     words_none text (subst (λ t. prefix_len (of_kind false) t ≡ 0) (begun (goal.at.returns-then-is_empty c).After-is_empty) stop)
 
 pub returns-else-is_empty : goal.returns-else-is_empty
@@ -29,7 +29,7 @@ returns-else-is_empty c =
     let text = c.args.self.now.rest.now in
     let t = c.split_at.result.1.now in
     let is = c.run_length-2.ensures in
-    let some : 0 < prefix_len (of_kind false) t = omega (arith, is, c.split_at-2.ensures.front-len, eqb-false _ 0 (sym c.if-is_empty.ensures)) in
+    let some : 0 < prefix_len (of_kind false) t = omega (arith, is, c.split_at-2.ensures.front_len, eqb-false _ 0 (sym c.if-is_empty.ensures)) in
     let skipped : words text ≡ words t = sym (words_skip text) ∙ sym (ap words (begun (goal.at.returns-else-is_empty c).After-is_empty)) in
     let front = c.split_at-2.ensures.front ∙ ap (λ k. take k t) is in
     let back = c.split_at-2.ensures.back ∙ ap (λ k. drop k t) is in
