@@ -1,3 +1,5 @@
+#![tactic(auto)]
+
 // The spellings, the samenesses, the numbers, the check of tables and the reports at their bounds, as tables. It has tests only.
 #[cfg(test)]
 mod packing;

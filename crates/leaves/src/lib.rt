@@ -1,4 +1,6 @@
 // The leaf kinds: symbols and rates.
+#![tactic(auto)]
+
 mod rate;
 mod symbol;
 

@@ -1,5 +1,5 @@
 -- The front of an input that is listed, and its words. Assumes nothing.
-use Rattle.std.proofs.Common.{◌≡◌, ℕ, zero, suc, ◌+◌, ◌-◌, ◌<◌, ◌≤◌, Bool, true, false, ◌||◌, leb, List, [], ◌∷◌, ◌++◌, length, get_or, take, drop, sym, refl, ap, ◌∙◌, subst, inl, inr, arith, take-suc}
+use Rattle.std.proofs.Common.{◌≡◌, ℕ, zero, suc, ◌-◌, ◌<◌, ◌≤◌, Bool, true, false, ◌||◌, leb, List, [], ◌∷◌, ◌++◌, length, get_or, take, drop, sym, refl, ap, ◌∙◌, subst, inl, inr, arith, take-suc}
 use Rattle.std.proofs.lemmas.List.{drop_all, drop_more, get_or_past, take_all, take-append-drop, take_at}
 use Rattle.std.proofs.lemmas.Bool.{both_ways, cases_Bool, cases_lt, cases_order, cond-true, cond-false, leb-true, leb-false, or_cases, or_from, or_left, or_right}
 use Rattle.rate_report.specs.Limit.{after_white, breaks, Keeps, FirstWords, last_break, kept}

@@ -1,4 +1,6 @@
 // Which rates of a text are the same, as a report that a person can read.
+#![tactic(auto)]
+
 mod limit;
 mod report;
 mod words;

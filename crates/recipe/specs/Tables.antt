@@ -1,5 +1,5 @@
 -- Tables of places as the rules see them: what stands at a place, its parts, its holder and its scope. Assumes nothing. (docs/RULES.md, "Tables")
-use Rattle.std.specs.Prelude.{◌≡◌, ℕ, zero, suc, ◌<◌, cond, List, [], ◌∷◌, length, Some, None, Option, ◌==◌, ◌≢◌, slice_index_or}
+use Rattle.std.specs.Prelude.{ℕ, zero, suc, ◌<◌, cond, List, [], ◌∷◌, length, Some, None, Option, ◌==◌, ◌≢◌, slice_index_or}
 use Rattle.std.specs.List.{slice_get}
 use Rattle.recipe.specs.declared.places.Place.{Place}
 use Rattle.recipe.specs.Common.{first_below, In}

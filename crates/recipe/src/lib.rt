@@ -1,4 +1,6 @@
 // Grade recipes: the rules of matching them, tables of recipes and their check, kinds of leaves and how leaves are numbered, short spellings.
+#![tactic(auto)]
+
 mod answers;
 mod checking;
 mod equality;

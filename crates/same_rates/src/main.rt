@@ -1,4 +1,6 @@
 // Reads words from standard input, and writes which of them spell the same rate.
+#![tactic(auto)]
+
 use rate_report::{LIMIT, report_on};
 use std::io::{Read, Write};
 

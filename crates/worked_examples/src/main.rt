@@ -1,4 +1,6 @@
 // Prints the worked examples: their recipes, and below them each call with its answer.
+#![tactic(auto)]
+
 use recipe::{Finding, Label, Refusal};
 use specimens::{Call, Specimen, specimens};
 
