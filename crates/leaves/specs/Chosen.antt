@@ -1,4 +1,4 @@
--- A value that is there only where a test passes. Assumes nothing.
+-- A value that is there only where a test passes. Assumes nothing. (Lemmas, here because the proofs of the laws cite them: a reader of the statements may pass this file over.)
 use Rattle.std.specs.Prelude.{◌≡◌, Bool, true, false, cond, is_some, Some, None, Option, ◌≢◌, refl}
 use Rattle.std.proofs.Common.{ap}
 use Rattle.std.proofs.lemmas.Bool.{both_ways}

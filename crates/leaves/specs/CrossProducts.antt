@@ -1,4 +1,4 @@
--- Equal cross products make a sameness of rates. Assumes nothing.
+-- Equal cross products make a sameness of rates. Assumes nothing. (Lemmas, here because the proofs of the laws cite them: a reader of the statements may pass this file over.)
 use Rattle.std.specs.Prelude.{◌≡◌, ℕ, ◌*◌, ◌<◌, true}
 use Rattle.std.proofs.Common.{ap, ◌∙◌, mul_right_comm, arith}
 use Rattle.std.proofs.Math.Nat.{eq_of_mul-eq-mul_right}

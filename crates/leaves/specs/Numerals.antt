@@ -1,4 +1,4 @@
--- What decimal digits write. Assumes nothing.
+-- What decimal digits write. Assumes nothing. (Lemmas, here because the proofs of the laws cite them: a reader of the statements may pass this file over.)
 use Rattle.std.specs.Prelude.{◌≡◌, ℕ, ◌+◌, ◌-◌, ◌*◌, ◌^◌, ◌<◌, ◌≤◌, true, ◌&&◌, List, [], ◌∷◌, ◌++◌, length, Some, nat_le, refl}
 use Rattle.std.proofs.Common.{sym, ◌∙◌, add-mul, add_assoc, mul_assoc, mul-le-mul, zero-add, arith}
 use Rattle.std.proofs.Math.Nat.{pow-le-pow_right, pow-succ'}

@@ -1,4 +1,4 @@
--- Laws of the spelling of rates. Assumes nothing.
+-- Laws of the spelling of rates. Assumes nothing. (Lemmas, here because the proofs of the laws cite them: a reader of the statements may pass this file over.)
 use Rattle.std.specs.Prelude.{◌≡◌, ℕ, ◌+◌, ◌^◌, ◌<◌, Bool, true, false, cond, ◌&&◌, List, [], ◌∷◌, ◌++◌, length, take, drop, Some, None, Option, ◌==◌, nat_le, refl}
 use Rattle.std.proofs.Common.{sym, ap, subst, subst₂, ◌∙◌, arith}
 use Rattle.std.proofs.lemmas.List.{append-nil, drop_at, length-append, take-append-drop, take_at}
