@@ -4,16 +4,17 @@
 usage: python3 tools/respell.py [FOLDER]     (the top of a checkout; this one if none is given)
 
 Functions, lemmas, fields, constructors and local names are in snake case: partsOf and parts-of become parts_of.
-Types, facts and modules keep their capitals. Names that the prover makes (goals, invariants, measures) and names of
-src/ are left alone. Nothing is written where two names would fall together: the names are printed, and the status is 1.
+Types, facts and modules keep their capitals. Names that the prover makes (goals, invariants, measures), names of other
+libraries and names of src/ are left alone. Nothing is written where two of the names would become one, or one of them a
+word that an .antt file has already, but for the tables below: the names are printed, and the status is 1.
 """
 
 import os
 import re
 import sys
 
-# Lemmas that would have the name of a definition or a function, and what they are called.
-LEMMAS = {
+# Names that would become that of another definition or of a function, and what they are called.
+APART = {
     "name-byte": "name_byte_lem",
     "same-rate": "equal_rates",
     "same-rate-right": "equal_rates_right",
@@ -23,7 +24,7 @@ LEMMAS = {
     "digitValue": "value_of_digit",
 }
 
-# Definitions that say what a function of src/ returns, and are named as it is.
+# Definitions that say what a function of src/ returns, and are named as it is, though .antt files name its proof folder.
 MIRRORS = {
     "decimalRate": "decimal_rate",
     "isName": "is_name",
@@ -32,7 +33,7 @@ MIRRORS = {
     "ratesOf": "rates_of",
 }
 
-OTHERWISE = LEMMAS | MIRRORS
+OTHERWISE = APART | MIRRORS
 
 # Names that the prover makes.
 MADE = re.compile(r"^(invariant-|decreases-|ghosts?-|loop-|returns|overflow-|overflow_|bounds-|slice-bounds|nonzero|prove-|ensures-)|-requires(-\d+)?$")

@@ -1,5 +1,5 @@
 -- Laws that equality in scopes obeys: it is an equivalence, and the names of binders do not matter. Assumes nothing. (docs/RULES.md, "Laws of equality")
-use Rattle.std.specs.Prelude.{◌≡◌, ℕ, ◌<◌, Bool, cond, ◌≢◌, ◌⊎◌, length, Some, ◌==◌, slice_index, slice_index_or}
+use Rattle.std.specs.Prelude.{◌≡◌, ℕ, ◌<◌, Bool, cond, ◌≢◌, ◌⊎◌, length, Some, ◌==◌, slice_index}
 use Rattle.recipe.specs.Equality.{Equal}
 use Rattle.recipe.specs.Recipes.{Recipe}
 use Rattle.recipe.specs.Scopes.{Scope, inner}
@@ -33,7 +33,7 @@ pub record Covered (Φ : Scope) (i : ℕ) : Type 0 where
   pub within : i < length Φ
   pub further_in : ℕ
   pub lower : further_in < i
-  pub one_name : slice_index_or Φ further_in 0 ≡ slice_index Φ i
+  pub one_name : slice_index Φ further_in ≡ slice_index Φ i
 
 -- over a sameness, equality in scopes is an equivalence
 pub record Equivalence {L : Type 0} (same : L → L → Bool) : Type 0 where

@@ -1,5 +1,5 @@
 // Whether a table of places can be opened, and the memory that it then needs.
-ghost use Rattle.std.specs.Prelude.{◌≡◌, ◌^◌, ◌<◌, ◌≤◌, true, false, ◌||◌, leb, ◌↔◌, length, is_ok, nat_le, nat_lt};
+ghost use Rattle.std.specs.Prelude.{◌≡◌, ◌^◌, ◌<◌, ◌≤◌, true, false, ◌||◌, ◌↔◌, length, is_ok, nat_le, nat_lt};
 ghost use Rattle.recipe.specs.Checking.{numbers_fit, any_part, outside, held_among, fault_at, above_name, name_count, needed, checked};
 ghost use Rattle.recipe.specs.Common.{first_below};
 ghost use Rattle.recipe.specs.Marks.{parts_of, is_marked, marked, fault_seen};
@@ -89,7 +89,7 @@ fn fault(place: &Place, p: usize, size: usize, many: usize, marks: &Marks) -> Op
 // Marks the parts of a place, whose depth is `depth`, as held.
 fn mark_parts(place: &Place, depth: u32, marks: &mut Marks)
     requires deep { depth ≤ 64 }
-    requires within { any_part (λ x. leb 512 x.at) (parts_of place.now) ≡ false }
+    requires within { any_part (λ x. nat_le 512 x.at) (parts_of place.now) ≡ false }
     ensures { marks.new ≡ marked depth (parts_of place.now) marks.old }
 {
     match place.kind {

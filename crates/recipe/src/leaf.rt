@@ -5,7 +5,7 @@ pub trait Leaf: Copy {
     // The length, in bytes, of the longest word that spells a leaf.
     const LONGEST: usize;
 
-    // That length for clauses, which cannot name the constant.
+    // That length, for clauses.
     ghost longest: { ℕ };
 
     // The leaf that a word spells, if it spells one.
