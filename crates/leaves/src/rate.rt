@@ -101,7 +101,7 @@ fn rate_after(digits: &[u8], rest: &[u8]) -> Option<Rate>
 impl Leaf for Rate {
     const LONGEST: usize = 21;
 
-    ghost longest = { 21 };
+    ghost LONGEST = { 21 };
 
     ghost spells = { rate_of };
 
@@ -114,10 +114,6 @@ impl Leaf for Rate {
     ghost transitive = { rate_transitive };
 
     ghost bounded = { rate_bounded };
-
-    fn longest_word() -> usize {
-        Self::LONGEST
-    }
 
     fn read(word: &[u8]) -> Option<Rate>
         ensures value { result ≡ rate_of word.now }

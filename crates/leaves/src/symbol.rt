@@ -51,7 +51,7 @@ fn is_name(bytes: &[u8]) -> bool
 impl Leaf for Symbol {
     const LONGEST: usize = 9;
 
-    ghost longest = { 9 };
+    ghost LONGEST = { 9 };
 
     ghost spells = { symbol_of };
 
@@ -64,10 +64,6 @@ impl Leaf for Symbol {
     ghost transitive = { Prim.search rules };
 
     ghost bounded = { Prim.search rules };
-
-    fn longest_word() -> usize {
-        Self::LONGEST
-    }
 
     fn read(word: &[u8]) -> Option<Symbol>
         ensures value { result ≡ symbol_of word.now }

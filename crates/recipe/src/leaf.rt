@@ -5,18 +5,13 @@ pub trait Leaf: Copy {
     // The length, in bytes, of the longest word that spells a leaf.
     const LONGEST: usize;
 
-    // That length, for clauses.
-    ghost longest: { ℕ };
+    ghost LONGEST: { ℕ };
 
     // The leaf that a word spells, if it spells one.
     ghost spells: { List ℕ → Option Self };
 
     // Whether two leaves are the same.
     ghost equates: { Self → Self → Bool };
-
-    // An `impl` returns its `LONGEST` here, which ties the constant to the clauses.
-    fn longest_word() -> usize
-        ensures { result ≡ longest };
 
     // The leaf that `word` spells, or none.
     fn read(word: &[u8]) -> Option<Self>
@@ -26,6 +21,13 @@ pub trait Leaf: Copy {
     fn same(&self, other: &Self) -> bool
         ensures { result ≡ equates self.now other.now };
 
+    // The length of the longest word, as a call.
+    final fn longest_word() -> usize
+        ensures { result ≡ LONGEST }
+    {
+        Self::LONGEST
+    }
+
     // Sameness is an equivalence, over all values of the type.
     ghost reflexive: { (x : Self) → equates x x ≡ true };
 
@@ -34,5 +36,5 @@ pub trait Leaf: Copy {
     ghost transitive: { (x y z : Self) → equates x y ≡ true → equates y z ≡ true → equates x z ≡ true };
 
     // A word that is longer than the longest spells nothing.
-    ghost bounded: { (word : List ℕ) → longest < length word → spells word ≡ None };
+    ghost bounded: { (word : List ℕ) → LONGEST < length word → spells word ≡ None };
 }
