@@ -68,10 +68,7 @@ const RATES: [(&str, Option<(u32, u32)>); 56] = [
 #[test]
 fn rates_are_read_as_spelled(rt: HostRuntime) {
     for (word, expected) in RATES {
-        let read = match Rate::read(word.as_bytes()) {
-            Some(rate) => Some((rate.numerator, rate.denominator)),
-            None => None,
-        };
+        let read = Rate::read(word.as_bytes()).map(|rate| (rate.numerator, rate.denominator));
         assert_eq!(rt; read, expected, "{}", word);
     }
 }

@@ -1,5 +1,6 @@
-// The number of each refusal, and what it carries.
+// The number of each refusal, what it carries, and how it is printed.
 use recipe::Refusal;
+use std::test::Fail;
 
 const REFUSALS: [(Refusal, u32, usize, Option<usize>); 20] = [
     (Refusal::TooLarge, 1, 0, None),
@@ -50,4 +51,33 @@ fn each_refusal_has_its_number(rt: HostRuntime) {
             number
         );
     }
+}
+
+// Refusals as they are printed: with one number carried, with two, and with none, which is printed as 0.
+const PRINTED: [(Refusal, &str); 4] = [
+    (Refusal::NamesDisagree { place: 5 }, "refused 16 5"),
+    (
+        Refusal::Clash {
+            place: 4,
+            partner: 5,
+        },
+        "refused 14 4 5",
+    ),
+    (
+        Refusal::UnequalDepths {
+            first: 9,
+            second: 2,
+        },
+        "refused 12 9 2",
+    ),
+    (Refusal::TooManyTells, "refused 13 0"),
+];
+
+#[test]
+fn a_refusal_is_printed_with_what_it_carries(rt: HostRuntime) -> Result<(), Fail> {
+    for (refusal, expected) in PRINTED {
+        let printed = format!(in rt.alloc(); "{refusal}")?;
+        assert_eq!(rt; printed.as_str(), expected);
+    }
+    Ok(())
 }

@@ -42,15 +42,8 @@ fn repeated(
     length: usize,
     end: &[u8],
 ) -> Result<Vec<u8>, AllocError> {
-    let mut text = Vec::new(heap);
-    for i in 0..length {
-        if pattern.is_empty() {
-            break;
-        }
-        text.push(pattern[i % pattern.len()])?;
-    }
-    text.extend_from_slice(end)?;
-    Ok(text)
+    let again = pattern.iter().copied().cycle().take(length);
+    again.chain(end.iter().copied()).collect(heap)
 }
 
 // A pattern, how many bytes of it there are, and what follows them; then the last lines of the report on that.

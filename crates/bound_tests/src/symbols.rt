@@ -43,10 +43,7 @@ const SYMBOLS: [(&str, Option<u64>); 33] = [
 #[test]
 fn symbols_are_read_as_spelled(rt: HostRuntime) {
     for (word, expected) in SYMBOLS {
-        let read = match Symbol::read(word.as_bytes()) {
-            Some(symbol) => Some(symbol.packed),
-            None => None,
-        };
+        let read = Symbol::read(word.as_bytes()).map(|symbol| symbol.packed);
         assert_eq!(rt; read, expected, "{}", word);
     }
 }

@@ -1,6 +1,9 @@
 // What `check` answers: each refusal at its first and at its last place, the order of the tests, and the memory needed.
 use recipe::{Place, check as check_table};
 use specimens::specimens;
+use std::alloc::{AllocError, Global};
+use std::iter;
+use std::test::Fail;
 
 type Row = (u32, u32, u32);
 
@@ -13,34 +16,20 @@ fn place((kind, a, b): Row) -> Place {
     Place { kind, a, b }
 }
 
-// Puts the rows at the end of a table.
-fn put_at_end(table: &mut [Place], rows: &[Row]) {
-    let before = table.len().saturating_sub(rows.len());
-    for (at, row) in table[before..].iter_mut().zip(rows) {
-        *at = place(*row);
-    }
+// A table of `size` places, which ends in the rows and has nils before them.
+fn table(heap: Global, size: usize, rows: &[Row]) -> Result<Vec<Place>, AllocError> {
+    let nils = iter::repeat_n(NIL, size.saturating_sub(rows.len()));
+    nils.chain(rows.iter().copied()).map(place).collect(heap)
 }
 
-// What `check` answers on a table once the rows are at its end.
-fn answer_with(table: &mut [Place], rows: &[Row], leaves: &[u8]) -> Answer {
-    put_at_end(table, rows);
-    match check_table(table, leaves) {
-        Ok(words) => Ok(words),
-        Err(refusal) => {
-            let (first, second) = refusal.carried();
-            Err((refusal.number(), first, second))
-        }
-    }
-}
-
-// What `check` answers on a table of `size` places, which ends in the rows and has nils before them, over some leaves.
-fn answer(size: usize, rows: &[Row], leaves: usize) -> Answer {
-    let mut table = [place(NIL); 600];
-    answer_with(
-        &mut table[..size.min(600)],
-        rows,
-        &[0; 600][..leaves.min(600)],
-    )
+// What `check` answers on a table that ends in the rows, over so many leaves.
+fn answer(heap: Global, size: usize, rows: &[Row], leaves: usize) -> Result<Answer, AllocError> {
+    let table = table(heap, size, rows)?;
+    let leaves: Vec<u8> = iter::repeat_n(0, leaves).collect(heap)?;
+    Ok(check_table(&table, &leaves).map_err(|refusal| {
+        let (first, second) = refusal.carried();
+        (refusal.number(), first, second)
+    }))
 }
 
 // The size of a table, the rows at its end, how many leaves there are, and the answer.
@@ -117,28 +106,19 @@ const TABLES: [(usize, &[Row], usize, Answer); 57] = [
 ];
 
 #[test]
-fn tables_are_checked_place_by_place(rt: HostRuntime) {
+fn tables_are_checked_place_by_place(rt: HostRuntime) -> Result<(), Fail> {
     for (i, (size, rows, leaves, expected)) in TABLES.into_iter().enumerate() {
-        assert_eq!(rt; answer(size, rows, leaves), expected, "{}", i);
+        assert_eq!(rt; answer(rt.alloc(), size, rows, leaves)?, expected, "{}", i);
     }
+    Ok(())
 }
 
-// Makes each row a bind of the next place, where the first row is at the place `first`.
-fn chain(rows: &mut [Row], first: usize) {
-    for (i, row) in rows.iter_mut().enumerate() {
-        let inside = first.saturating_add(i).saturating_add(1).min(600);
-        *row = (4, 0, inside as u32);
-    }
-}
-
-// What `check` answers on a table of `size` places that ends in as many rows: a chain of binds, and the tail inside it.
-fn answer_on_chain(rows: &mut [Row], size: usize, tail: &[Row]) -> Answer {
-    chain(rows, size.saturating_sub(rows.len()));
-    let binds = rows.len().saturating_sub(tail.len());
-    for (at, row) in rows[binds..].iter_mut().zip(tail) {
-        *at = *row;
-    }
-    answer(size, rows, 0)
+// A chain of binds, each of the next place, and the tail behind them, at the end of a table of `size` places.
+fn chain(heap: Global, size: usize, binds: usize, tail: &[Row]) -> Result<Vec<Row>, AllocError> {
+    let end = u32::try_from(size.saturating_sub(tail.len())).unwrap_or(u32::MAX);
+    let first = end.saturating_sub(u32::try_from(binds).unwrap_or(u32::MAX));
+    let chain = (first..end).map(|p| (4, 0, p.saturating_add(1)));
+    chain.chain(tail.iter().copied()).collect(heap)
 }
 
 // The size of a table, how many binds there are in a chain, the rows after it, at the end of the table, and the answer.
@@ -156,17 +136,12 @@ const CHAINS: [(usize, usize, &[Row], Answer); 9] = [
 ];
 
 #[test]
-fn a_place_is_at_most_64_binds_deep(rt: HostRuntime) {
+fn a_place_is_at_most_64_binds_deep(rt: HostRuntime) -> Result<(), Fail> {
     for (i, (size, binds, tail, expected)) in CHAINS.into_iter().enumerate() {
-        let mut rows = [NIL; 110];
-        let many = binds.min(100) + tail.len().min(10);
-        assert_eq!(rt;
-            answer_on_chain(&mut rows[..many], size, tail),
-            expected,
-            "{}",
-            i
-        );
+        let rows = chain(rt.alloc(), size, binds, tail)?;
+        assert_eq!(rt; answer(rt.alloc(), size, &rows, 0)?, expected, "{}", i);
     }
+    Ok(())
 }
 
 // The memory that the table of each worked example needs.
@@ -175,9 +150,7 @@ const NEEDED: [usize; 8] = [1344, 1552, 1424, 1280, 1504, 1792, 1280, 1152];
 #[test]
 fn the_tables_of_the_worked_examples_are_accepted(rt: HostRuntime) {
     for (specimen, needed) in specimens().into_iter().zip(NEEDED) {
-        match check_table(specimen.places, specimen.leaves) {
-            Ok(words) => assert_eq!(rt; words, needed, "{}", specimen.recipes),
-            Err(refusal) => assert_eq!(rt; refusal.number(), 0, "{}", specimen.recipes),
-        }
+        let answer = check_table(specimen.places, specimen.leaves);
+        assert_eq!(rt; answer, Ok(needed), "{}", specimen.recipes);
     }
 }

@@ -1,3 +1,2 @@
-pub mod Every
-pub mod Front
+pub mod Digits
 pub mod Symbols

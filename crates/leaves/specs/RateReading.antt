@@ -2,14 +2,13 @@
 use Rattle.std.specs.Prelude.{ℕ, ◌^◌, Bool, cond, ◌&&◌, List, [], ◌∷◌, ◌++◌, length, take, drop, Some, None, Option, ◌==◌, nat_le}
 use Rattle.std.specs.Str.Parse.{digits_value}
 use Rattle.std.specs.Char.{is_ascii_digit}
-use Rattle.std.specs.List.{prefix_len}
-use Rattle.leaves.specs.Bytes.{every}
+use Rattle.std.specs.List.{list_all, prefix_len}
 use Rattle.leaves.specs.Rates.{largest}
 use Rattle.leaves.specs.declared.rate.Rate.{Rate}
 
 -- whether ds are one to most decimal digits
 abbrev pub is_numeral : ℕ → List ℕ → Bool
-is_numeral most ds = (nat_le 1 (length ds) && nat_le (length ds) most) && every is_ascii_digit ds
+is_numeral most ds = (nat_le 1 (length ds) && nat_le (length ds) most) && list_all is_ascii_digit ds
 
 -- the number that a numeral writes
 abbrev pub numeral_of : ℕ → List ℕ → Option ℕ

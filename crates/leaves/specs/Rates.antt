@@ -2,14 +2,14 @@
 use Rattle.std.specs.Prelude.{◌≡◌, ℕ, ◌*◌, ◌^◌, ◌≤◌, Bool, true, cond, ◌&&◌, ◌||◌, ◌↔◌, List, ◌∷◌, ◌++◌, length, Some, Option, ◌==◌}
 use Rattle.std.specs.Str.Parse.{digits_value}
 use Rattle.std.specs.Char.{is_ascii_digit}
-use Rattle.leaves.specs.Bytes.{every}
+use Rattle.std.specs.List.{list_all}
 use Rattle.leaves.specs.declared.rate.Rate.{Rate}
 
 -- one to most decimal digits
 pub record Numeral (most : ℕ) (ds : List ℕ) : Type 0 where
   pub some : 1 ≤ length ds
   pub short : length ds ≤ most
-  pub all : every is_ascii_digit ds ≡ true
+  pub all : list_all is_ascii_digit ds ≡ true
 
 -- a word that is n, n/d (47 is the slash) or n.f (46 is the point), with its numerator and denominator; of n.f these are the digits joined, and 10 to the number of digits of f
 pub data Form : List ℕ → ℕ → ℕ → Type 0 where

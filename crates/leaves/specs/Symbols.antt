@@ -2,7 +2,7 @@
 use Rattle.std.specs.Prelude.{◌≡◌, ℕ, Bool, false, cond, ◌&&◌, ◌||◌, List, [], ◌∷◌, length, Some, None, Option, ◌==◌, nat_le}
 use Rattle.std.specs.Char.{is_ascii_digit, is_ascii_lowercase}
 use Rattle.recipe.specs.Packing.{packed}
-use Rattle.leaves.specs.Bytes.{every}
+use Rattle.std.specs.List.{list_all}
 use Rattle.leaves.specs.declared.symbol.Symbol.{Symbol}
 
 -- a lower-case letter, a digit or a hyphen
@@ -11,7 +11,7 @@ name_byte b = is_ascii_lowercase b || is_ascii_digit b || b == 45
 
 -- the tail of a name: at most seven such bytes
 abbrev pub is_tail : List ℕ → Bool
-is_tail bs = nat_le (length bs) 7 && every name_byte bs
+is_tail bs = nat_le (length bs) 7 && list_all name_byte bs
 
 -- a name: one lower-case letter, and then a tail
 abbrev pub is_name : List ℕ → Bool

@@ -1,8 +1,8 @@
 // Rates: fractions of whole numbers, as frame rates are given.
 ghost use Rattle.std.specs.Prelude.{◌≡◌, ◌≤◌};
 ghost use Rattle.std.specs.Char.{is_ascii_digit};
-ghost use Rattle.std.specs.List.{prefix_len};
-ghost use Rattle.leaves.specs.RateReading.{numeral_of, ratio as ratio_of, whole_rate, fraction_rate, decimal_rate, rate_after, rate_of};
+ghost use Rattle.std.specs.List.{list_all, prefix_len};
+ghost use Rattle.leaves.specs.RateReading.{is_numeral, numeral_of, ratio as ratio_of, whole_rate, fraction_rate, decimal_rate, rate_after, rate_of};
 ghost use Rattle.leaves.specs.Rates.{SpelledBy, same_rate};
 ghost use Rattle.leaves.specs.CrossProducts.{rate_reflexive, rate_symmetric, rate_transitive};
 ghost use Rattle.leaves.specs.RatesLemmas.{rate_bounded};
@@ -20,30 +20,33 @@ pub struct Rate {
 fn leading_digits(word: &[u8]) -> usize
     ensures { result ≡ prefix_len is_ascii_digit word.now }
 {
-    for (i, byte) in word.iter().enumerate() {
-        if !byte.is_ascii_digit() {
-            return i;
-        }
-    }
-    word.len()
+    word.iter().take_while(|byte| byte.is_ascii_digit()).count()
+}
+
+// Whether every byte is a decimal digit.
+fn are_digits(bytes: &[u8]) -> bool
+    ensures { result ≡ list_all is_ascii_digit bytes.now }
+{
+    bytes.iter().all(u8::is_ascii_digit)
+}
+
+// Whether there are one to `most` digits, and each is a decimal one.
+fn is_numeral(digits: &[u8], most: usize) -> bool
+    ensures { result ≡ is_numeral most digits.now }
+{
+    (1..=most).contains(&digits.len()) && are_digits(digits)
 }
 
 // The number that one to `most` decimal digits write; 18 digits fit in 64 bits.
+#[tactic(auto, using(crate::proofs::Digits::numeral_text, crate::proofs::Digits::numeral_parsed))]
 fn numeral(digits: &[u8], most: usize) -> Option<u64>
     requires { most ≤ 18 }
     ensures { result ≡ numeral_of most digits.now }
 {
-    if digits.len() < 1 || digits.len() > most {
+    if !is_numeral(digits, most) {
         return None;
     }
-    let mut value = 0;
-    for digit in digits {
-        if !digit.is_ascii_digit() {
-            return None;
-        }
-        value = value * 10 + u64::from(*digit - b'0');
-    }
-    Some(value)
+    str::from_utf8(digits).ok()?.parse().ok()
 }
 
 // The largest numerator and denominator of a rate that is read.
@@ -53,7 +56,7 @@ const LARGEST: u64 = 2_147_483_647;
 fn ratio(numerator: u64, denominator: u64) -> Option<Rate>
     ensures { result ≡ ratio_of numerator denominator }
 {
-    if numerator > LARGEST || denominator < 1 || denominator > LARGEST {
+    if numerator > LARGEST || !(1..=LARGEST).contains(&denominator) {
         return None;
     }
     Some(Rate {
@@ -77,6 +80,7 @@ fn fraction_rate(numerator: &[u8], denominator: &[u8]) -> Option<Rate>
 }
 
 // The rate that the numerals on both sides of a point spell.
+#[tactic(auto, using(crate::proofs::Digits::decimal_small, crate::proofs::Digits::value_append))]
 fn decimal_rate(whole: &[u8], decimals: &[u8]) -> Option<Rate>
     ensures { result ≡ decimal_rate whole.now decimals.now }
 {
@@ -87,6 +91,7 @@ fn decimal_rate(whole: &[u8], decimals: &[u8]) -> Option<Rate>
 }
 
 // The rate that the digits spell with what follows them: nothing, a slash or a point and more.
+#[tactic(auto, unfolding(crate::specs::RateReading::rate_after))]
 fn rate_after(digits: &[u8], rest: &[u8]) -> Option<Rate>
     ensures { result ≡ rate_after digits.now rest.now }
 {
@@ -115,6 +120,7 @@ impl Leaf for Rate {
 
     ghost bounded = { rate_bounded };
 
+    #[tactic(auto, unfolding(crate::specs::RateReading::rate_of))]
     fn read(word: &[u8]) -> Option<Rate>
         ensures value { result ≡ rate_of word.now }
         ensures spelled { SpelledBy word.now result }
@@ -125,7 +131,7 @@ impl Leaf for Rate {
 
     fn same(&self, other: &Rate) -> bool {
         if self.denominator == 0 || other.denominator == 0 {
-            return self.numerator == other.numerator && self.denominator == other.denominator;
+            return self == other;
         }
         let left = u64::from(self.numerator) * u64::from(other.denominator);
         let right = u64::from(other.numerator) * u64::from(self.denominator);

@@ -1,6 +1,6 @@
 // Symbols: an apostrophe and a short name.
 ghost use Rattle.std.specs.Prelude.{◌≡◌};
-ghost use Rattle.leaves.specs.Bytes.{every};
+ghost use Rattle.std.specs.List.{list_all};
 ghost use Rattle.leaves.specs.Symbols.{symbol_of, same_symbol, name_byte, is_tail, is_name, OnlyWord};
 ghost use Rattle.std.proofs.Common.{rules};
 
@@ -21,14 +21,9 @@ fn is_name_byte(byte: u8) -> bool
 
 // Whether every byte may follow the first one of a name.
 fn are_name_bytes(bytes: &[u8]) -> bool
-    ensures { result ≡ every name_byte bytes.now }
+    ensures { result ≡ list_all name_byte bytes.now }
 {
-    for byte in bytes {
-        if !is_name_byte(*byte) {
-            return false;
-        }
-    }
-    true
+    bytes.iter().all(|byte| is_name_byte(*byte))
 }
 
 // Whether the bytes are the tail of a name: at most seven, each of which may follow its first byte.
@@ -65,21 +60,20 @@ impl Leaf for Symbol {
 
     ghost bounded = { Prim.search rules };
 
+    #[tactic(auto, using(crate::proofs::Symbols::symbol_once))]
     fn read(word: &[u8]) -> Option<Symbol>
         ensures value { result ≡ symbol_of word.now }
         ensures once { OnlyWord word.now result }
     {
-        let [b'\'', name @ ..] = word else {
-            return None;
-        };
-        if !is_name(name) {
-            return None;
+        match word {
+            [b'\'', name @ ..] if is_name(name) => Some(Symbol {
+                packed: pack(name)?,
+            }),
+            _ => None,
         }
-        let packed = pack(name)?;
-        Some(Symbol { packed })
     }
 
     fn same(&self, other: &Symbol) -> bool {
-        self.packed == other.packed
+        self == other
     }
 }

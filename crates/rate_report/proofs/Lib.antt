@@ -1,5 +1,4 @@
-pub mod Appended
 pub mod Cuts
-pub mod Prefixes
 pub mod Listed
+pub mod Prefixes
 pub mod Whole

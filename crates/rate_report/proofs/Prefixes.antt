@@ -1,98 +1,55 @@
 -- The front of an input that is listed, and its words. Assumes nothing.
-use Rattle.std.proofs.Common.{◌≡◌, ℕ, zero, suc, ◌-◌, ◌<◌, ◌≤◌, Bool, true, false, ◌||◌, leb, List, [], ◌∷◌, ◌++◌, length, get_or, take, drop, sym, refl, ap, ◌∙◌, subst, inl, inr, arith, take-suc}
+use Rattle.std.proofs.Common.{◌≡◌, ℕ, zero, suc, ◌+◌, ◌-◌, ◌<◌, ◌≤◌, true, false, List, [], ◌∷◌, ◌++◌, length, get_or, take, drop, sym, refl, ap, ◌∙◌, subst, inl, inr, arith, take-suc, Option, Some, None, MatchOption}
+use Rattle.std.proofs.lemmas.Grind.{common_steps}
 use Rattle.std.proofs.lemmas.List.{drop_all, drop_more, get_or_past, take_all, take-append-drop, take_at}
-use Rattle.std.proofs.lemmas.Bool.{both_ways, cases_Bool, cases_lt, cases_order, cond-true, cond-false, leb-true, leb-false, or_cases, or_from, or_left, or_right}
+use Rattle.std.proofs.lemmas.Bool.{both_ways, cases_Bool, cases_lt, or_cases, or_from, or_left, or_right}
 use Rattle.rate_report.specs.Limit.{after_white, breaks, Keeps, FirstWords, last_break, kept}
-use Rattle.rate_report.specs.Words.{white, ended, extended, words}
-use Rattle.rate_report.proofs.Cuts.{words_white, words_alone, words_longer, words_some}
-
--- the text is empty or ends in white space
-abbrev pub last_white : List ℕ → Bool
-last_white [] = true
-last_white (b ∷ []) = white b
-last_white (b ∷ c ∷ cs) = last_white (c ∷ cs)
+use Rattle.rate_report.specs.Words.{white, ended, words}
+use Rattle.rate_report.proofs.Cuts.{last_white, Apart, words_apart}
 
 last_push : (s : List ℕ) (b : ℕ) → white b ≡ true → last_white (s ++ b ∷ []) ≡ true
 last_push [] b e = e
 last_push (c ∷ []) b e = e
 last_push (c ∷ d ∷ ds) b e = last_push (d ∷ ds) b e
 
--- no word of s goes on in t
-abbrev pub Apart : List ℕ → List ℕ → Type 0
-Apart s t = (ended t || last_white s) ≡ true
-
-extended_append : (b : ℕ) (w : List ℕ) (ws xs ys : List (List ℕ)) → xs ≡ w ∷ ws → extended b (xs ++ ys) ≡ extended b xs ++ ys
-extended_append b w ws xs ys e = rw e refl
-
-pub words_apart : (s t : List ℕ) → Apart s t → words (s ++ t) ≡ words s ++ words t
-unfolding words
-words_apart [] t e = refl
-words_apart (b ∷ []) t e =
-    elim (cases_Bool (white b)) [
-      | inl h ↦ words_white b t h ∙ sym (ap (λ ws. ws ++ words t) (words_white b [] h))
-      | inr h ↦ words_alone b t h (elim (or_cases (ended t) (white b) e) [ inl k ↦ k | inr k ↦ absurd (both_ways (white b) h k) ]) ∙ sym (ap (λ ws. ws ++ words t) (words_alone b [] h refl))
-    ]
-words_apart (b ∷ c ∷ cs) t e =
-    let more = words_apart (c ∷ cs) t e in
-    elim (cases_Bool (white b)) [
-      | inl h ↦ words_white b (c ∷ cs ++ t) h ∙ more ∙ sym (ap (λ ws. ws ++ words t) (words_white b (c ∷ cs) h))
-      | inr h ↦ elim (cases_Bool (white c)) [
-        | inl k ↦ words_alone b (c ∷ cs ++ t) h k ∙ ap (λ ws. (b ∷ []) ∷ ws) more ∙ sym (ap (λ ws. ws ++ words t) (words_alone b (c ∷ cs) h k))
-        | inr k ↦ (let first = words_some (c ∷ cs) k in words_longer b (c ∷ cs ++ t) h k ∙ ap (extended b) more ∙ extended_append b first.0 first.1 (words (c ∷ cs)) (words t) first.2 ∙ sym (ap (λ ws. ws ++ words t) (words_longer b (c ∷ cs) h k)))
-      ]
-    ]
-
--- one step back from a byte that is no white space, and a stop after one that is
-pub break_on : (s : List ℕ) (n : ℕ) → 0 < n → white (get_or s (n - 1) 0) ≡ false → last_break s (n - 1) ≡ last_break s n
+-- the last break after the last white space, at i; without white space it is the start
+break_at : (s : List ℕ) (n i : ℕ) → i < n → white (get_or s i 0) ≡ true → ((k : ℕ) → i + 1 ≤ k → k < n → white (get_or s k 0) ≡ false) → last_break s n ≡ i + 1
 unfolding last_break
-break_on s zero h e = absurd (omega arith)
-break_on s (suc n) h e =
-    let k : suc n - 1 ≡ n = omega arith in
-    ap (last_break s) k ∙ sym (cond-false (white (get_or s n 0)) _ _ (ap (λ i. white (get_or s i 0)) (sym k) ∙ e))
+break_at s zero i h here after = absurd (omega arith)
+break_at s (suc n) i h here after = grind (arith, common_steps, after n, break_at s n i)
 
-pub break_here : (s : List ℕ) (n : ℕ) → 0 < n → white (get_or s (n - 1) 0) ≡ true → last_break s n ≡ n
+break_start : (s : List ℕ) (n : ℕ) → ((k : ℕ) → k < n → white (get_or s k 0) ≡ false) → last_break s n ≡ 0
 unfolding last_break
-break_here s zero h e = absurd (omega arith)
-break_here s (suc n) h e =
-    let k : suc n - 1 ≡ n = omega arith in
-    cond-true (white (get_or s n 0)) _ _ (ap (λ i. white (get_or s i 0)) (sym k) ∙ e)
+break_start s zero none = refl
+break_start s (suc n) none = grind (arith, none n, break_start s n (λ k h. none k (omega arith)))
 
-pub break_start : (s : List ℕ) → last_break s 0 ≡ 0
+-- the last break of a text, from the index of its last white space
+pub break_found : (s : List ℕ) (last : Option ℕ) (at : ℕ) → MatchOption last ((k : ℕ) → k < length s → white (get_or s k 0) ≡ false) (λ i. (i < length s) × (white (get_or s i 0) ≡ true) × ((k : ℕ) → i + 1 ≤ k → k < length s → white (get_or s k 0) ≡ false)) → MatchOption last (at ≡ 0) (λ i. at ≡ i + 1) → at ≡ last_break s (length s)
+break_found s None at none is = is ∙ sym (break_start s (length s) none)
+break_found s (Some i) at here is = is ∙ sym (break_at s (length s) i here.0 here.1 here.2)
+
+-- a break below the end of a front is one of the text
+break_front : (s : List ℕ) (n m : ℕ) → m ≤ n → last_break (take n s) m ≡ last_break s m
 unfolding last_break
-break_start s = refl
+break_front s n zero h = refl
+break_front s n (suc m) h = grind (arith, common_steps, break_front s n m)
 
-pub break_within : (s : List ℕ) (n : ℕ) → last_break s n ≤ n
+break_within : (s : List ℕ) (n : ℕ) → last_break s n ≤ n
 unfolding last_break
 break_within s zero = omega arith
-break_within s (suc n) =
-    elim (cases_Bool (white (get_or s n 0))) [
-      | inl e ↦ omega (arith, cond-true (white (get_or s n 0)) (suc n) (last_break s n) e)
-      | inr e ↦ omega (arith, cond-false (white (get_or s n 0)) (suc n) (last_break s n) e, break_within s n)
-    ]
+break_within s (suc n) = grind (arith, break_within s n)
 
 -- the place that is found follows white space
 break_white : (s : List ℕ) (n : ℕ) → after_white s (last_break s n) ≡ true
 unfolding last_break
 break_white s zero = refl
-break_white s (suc n) =
-    elim (cases_Bool (white (get_or s n 0))) [
-      | inl e ↦ rw (cond-true (white (get_or s n 0)) (suc n) (last_break s n) e) e
-      | inr e ↦ rw (cond-false (white (get_or s n 0)) (suc n) (last_break s n) e) (break_white s n)
-    ]
+break_white s (suc n) = grind (arith, break_white s n)
 
 -- and no byte between it and n is white space
 break_solid : (s : List ℕ) (n k : ℕ) → last_break s n ≤ k → k < n → white (get_or s k 0) ≡ false
 unfolding last_break
 break_solid s zero k low high = absurd (omega arith)
-break_solid s (suc n) k low high =
-    elim (cases_Bool (white (get_or s n 0))) [
-      | inl e ↦ absurd (omega (arith, cond-true (white (get_or s n 0)) (suc n) (last_break s n) e))
-      | inr e ↦ elim (cases_order k n) [
-        | inl at ↦ ap (λ i. white (get_or s i 0)) at ∙ e
-        | inr (inl below) ↦ break_solid s n k (omega (arith, cond-false (white (get_or s n 0)) (suc n) (last_break s n) e)) below
-        | inr (inr above) ↦ absurd (omega arith)
-      ]
-    ]
+break_solid s (suc n) k low high = grind (arith, break_solid s n k)
 
 -- a text breaks at its end, and before white space
 ended_past : (s : List ℕ) (k : ℕ) → length s ≤ k → ended (drop k s) ≡ true
@@ -137,22 +94,34 @@ cut_before_word limit s h e = record {
 }
   where
     here : (n : ℕ) → last_break s limit ≤ n → n ≤ limit → white (get_or s n 0) ≡ false
-    here n low high =
-        elim (cases_order n limit) [
-          | inl at ↦ ap (λ i. white (get_or s i 0)) at ∙ e
-          | inr (inl below) ↦ break_solid s limit n low below
-          | inr (inr above) ↦ absurd (omega arith)
-        ]
+    here n low high = grind (arith, e, break_solid s limit n low)
+
+-- the cases of `kept`
+pub kept_all : (limit : ℕ) (s : List ℕ) → length s ≤ limit → kept limit s ≡ s
+unfolding kept
+kept_all limit s h = grind arith
+
+pub kept_at_white : (limit : ℕ) (s : List ℕ) → limit < length s → white (get_or s limit 0) ≡ true → kept limit s ≡ take limit s
+unfolding kept
+kept_at_white limit s h e = grind arith
+
+kept_before_word : (limit : ℕ) (s : List ℕ) → limit < length s → white (get_or s limit 0) ≡ false → kept limit s ≡ take (last_break s limit) s
+unfolding kept
+kept_before_word limit s h e = grind arith
+
+pub kept_from_front : (limit : ℕ) (s : List ℕ) (n : ℕ) → limit < length s → white (get_or s limit 0) ≡ false → n ≡ last_break (take limit s) (length (take limit s)) → kept limit s ≡ take n s
+kept_from_front limit s n h e is = grind (arith, common_steps, is, kept_before_word limit s h e, break_front s limit limit)
+
+pub ruleset kept_cases = (kept_all, kept_at_white, kept_from_front)
 
 pub keeps : (limit : ℕ) (s : List ℕ) → Keeps limit s (kept limit s)
-unfolding kept
 keeps limit s =
-    elim (cases_Bool (leb (length s) limit)) [
-      | inl e ↦ subst (Keeps limit s) (sym (cond-true _ _ _ e)) (all_kept limit s (leb-true (length s) limit e))
-      | inr e ↦ subst (Keeps limit s) (sym (cond-false _ _ _ e)) (elim (cases_Bool (white (get_or s limit 0))) [
-        | inl w ↦ subst (λ k. Keeps limit s (take k s)) (sym (cond-true _ _ _ w)) (cut_at_white limit s (leb-false (length s) limit e) w)
-        | inr w ↦ subst (λ k. Keeps limit s (take k s)) (sym (cond-false _ _ _ w)) (cut_before_word limit s (leb-false (length s) limit e) w)
-      ])
+    elim (cases_lt limit (length s)) [
+      | inl h ↦ elim (cases_Bool (white (get_or s limit 0))) [
+        | inl w ↦ rw (kept_at_white limit s h w) (cut_at_white limit s h w)
+        | inr w ↦ rw (kept_before_word limit s h w) (cut_before_word limit s h w)
+      ]
+      | inr h ↦ rw (kept_all limit s h) (all_kept limit s h)
     ]
 
 -- a place that follows white space ends a front in white space

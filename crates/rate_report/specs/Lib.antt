@@ -1,3 +1,4 @@
+pub mod Entries
 pub mod Limit
 pub mod Report
 pub mod Words

@@ -37,9 +37,13 @@ abbrev pub verdict : Option ℕ → List ℕ
 verdict None = codes " no rate"
 verdict (Some n) = codes " rate " ++ decimal n
 
+-- the line of the word w with the index i, of which the number of its rate is known
+abbrev pub line_with : Option ℕ → ℕ → List ℕ → List ℕ
+line_with number i w = decimal i ++ codes " " ++ w ++ verdict number ++ codes "\n"
+
 -- the line of the word with the index i
 abbrev pub line : List Rate → ℕ → List ℕ → List ℕ
-line rates i w = decimal i ++ codes " " ++ w ++ verdict (number_in rates (rate_of w)) ++ codes "\n"
+line rates i w = line_with (number_in rates (rate_of w)) i w
 
 -- the lines of words, the first with the index i
 unfoldable pub lines : List Rate → ℕ → List (List ℕ) → List ℕ
@@ -51,10 +55,14 @@ abbrev pub warning : ℕ → List ℕ → List ℕ
 warning limit input =
     cond (nat_lt limit (length input)) (codes "too much input: only the whole words of the first " ++ decimal limit ++ codes " bytes are listed\n") []
 
+-- the last line, for so many words, rates and different rates
+abbrev pub summary_with : ℕ → ℕ → ℕ → List ℕ
+summary_with word_count rate_count different_count =
+    codes "words " ++ decimal word_count ++ codes ", rates " ++ decimal rate_count ++ codes ", different rates " ++ decimal different_count ++ codes "\n"
+
 -- the last line, for so many words and these rates
 abbrev pub summary : ℕ → List Rate → List ℕ
-summary count rates =
-    codes "words " ++ decimal count ++ codes ", rates " ++ decimal (length rates) ++ codes ", different rates " ++ decimal (different rates) ++ codes "\n"
+summary count rates = summary_with count (length rates) (different rates)
 
 -- the report on an input, of which at most limit bytes are listed
 unfoldable pub report_of : ℕ → List ℕ → List ℕ

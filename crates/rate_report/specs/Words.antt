@@ -1,15 +1,9 @@
 -- The words of a text. Assumes nothing. (docs/RULES.md, "Reports on rates")
-use Rattle.std.specs.Prelude.{◌≡◌, ℕ, Bool, true, false, cond, not, ◌||◌, List, [], ◌∷◌, Option, MatchOption, ◌==◌}
-use Rattle.std.specs.Borrow.{Bor}
+use Rattle.std.specs.Prelude.{ℕ, Bool, true, cond, ◌||◌, List, [], ◌∷◌, ◌==◌}
 
 -- white space: space, tab, line feed, carriage return
 abbrev pub white : ℕ → Bool
 white b = b == 32 || b == 9 || b == 10 || b == 13
-
--- white space for true, and any other byte for false
-abbrev pub of_kind : Bool → ℕ → Bool
-of_kind true b = white b
-of_kind false b = not (white b)
 
 -- no word goes on here: at the end of a text, or before white space
 abbrev pub ended : List ℕ → Bool
@@ -25,7 +19,3 @@ extended b (w ∷ ws) = (b ∷ w) ∷ ws
 unfoldable pub words : List ℕ → List (List ℕ)
 words [] = []
 words (b ∷ bs) = cond (white b) (words bs) (cond (ended bs) ((b ∷ []) ∷ words bs) (extended b (words bs)))
-
--- what `next` gives: r is the first word of the text, and none where it has none; rest is what follows it
-abbrev pub NextWord : List ℕ → Option (Bor (List ℕ)) → List ℕ → Type 0
-NextWord text r rest = MatchOption r (words text ≡ []) (λ w. words text ≡ w.now ∷ words rest)

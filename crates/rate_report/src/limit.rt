@@ -4,28 +4,24 @@ ghost use Rattle.rate_report.specs.Limit.{last_break, kept as kept_of};
 
 use crate::words::is_white;
 
-// The last place, `end` or before it, that is the start of the text or follows white space.
-fn word_start(text: &[u8], mut end: usize) -> usize
-    requires { end ≤ length text.now }
-    ensures start { result ≡ last_break text.now end }
-    ensures within { result ≤ end }
+// The last place of the text that is its start or follows white space.
+fn word_start(text: &[u8]) -> usize
+    ensures start { result ≡ last_break text.now (length text.now) }
+    ensures within { result ≤ length text.now }
 {
-    while end > 0 && !is_white(text[end - 1]) {
-        end -= 1;
-    }
-    end
+    text.iter()
+        .rposition(|byte| is_white(*byte))
+        .map_or(0, |last| last + 1)
 }
 
 // The longest front of the input, of at most `limit` bytes, past which no word goes on.
+#[tactic(auto, using(crate::proofs::Prefixes::kept_cases))]
 pub(crate) fn kept(input: &[u8], limit: usize) -> &[u8]
     ensures { result.now ≡ kept_of limit input.now }
 {
-    if input.len() <= limit {
-        return input;
+    match input.get(limit) {
+        None => input,
+        Some(byte) if is_white(*byte) => &input[..limit],
+        Some(_) => &input[..word_start(&input[..limit])],
     }
-    if is_white(input[limit]) {
-        return &input[0..limit];
-    }
-    let end = word_start(input, limit);
-    &input[0..end]
 }

@@ -1,172 +1,143 @@
 // The report: a line for each word, and a summary.
-ghost use Rattle.std.specs.Prelude.{◌≡◌, ◌++◌, length, IfOk, decimal, OnOk};
+ghost use Rattle.std.specs.Prelude.{◌≡◌, ◌++◌, map, IfOk, OnOk, Some, string_bytes};
+ghost use Rattle.std.specs.List.{filter_map};
 ghost use Rattle.leaves.specs.RateReading.{rate_of};
-ghost use Rattle.leaves.specs.Rates.{same_rate};
-ghost use Rattle.recipe.specs.Numbering.{number_of};
-ghost use Rattle.rate_report.specs.Report.{rates_of, number_in, is_own, different as different_in, verdict, line, lines as lines_of, warning, summary, Reports};
-ghost use Rattle.rate_report.specs.Words.{words as words_of};
+ghost use Rattle.rate_report.specs.Entries.{entry_lines, own_numbers};
+ghost use Rattle.rate_report.specs.Report.{number_in, verdict, line_with, warning, summary_with, Reports};
 
 use crate::limit::kept;
-use crate::words::Words;
+use crate::words::words;
 use leaves::Rate;
 use recipe::{Leaf, leaf_number};
 use std::alloc::{AllocError, Global};
+use std::fmt;
 
 // The most bytes of an input that are listed.
 pub const LIMIT: usize = 65_536;
 
-// The rates that the words of the text spell, in order.
-fn rates_of(heap: Global, text: &[u8]) -> Result<Vec<Rate>, AllocError>
-    ensures { IfOk result (λ v. v.items ≡ rates_of (words_of text.now)) }
+// The rates that the words spell, in order.
+fn rates_of(heap: Global, words: &[&[u8]]) -> Result<Vec<Rate>, AllocError>
+    ensures { IfOk result (λ v. v.items ≡ filter_map (λ w. rate_of w.now) words.now) }
 {
-    let mut rates = Vec::new(heap);
-    let mut words = Words::new(text);
-    while let Some(word) = words.next() {
-        if let Some(rate) = Rate::read(word) {
-            rates.push(rate)?;
-        }
-    }
-    Ok(rates)
-}
-
-// Whether the rate, which stands in the list at the index, is the first of its kind.
-fn is_first(rates: &[Rate], rate: &Rate, index: usize) -> bool
-    ensures { result ≡ is_own index (number_of same_rate rates.now rate.now) }
-{
-    match leaf_number(rates, rate) {
-        Some(number) => number == index,
-        None => false,
-    }
-}
-
-// How many different rates there are.
-fn different(rates: &[Rate]) -> usize
-    ensures { result ≡ different_in rates.now }
-{
-    let mut count = 0;
-    for (i, rate) in rates.iter().enumerate() {
-        if is_first(rates, rate, i) {
-            count += 1;
-        }
-    }
-    count
+    words
+        .iter()
+        .filter_map(|word| Rate::read(word))
+        .collect(heap)
 }
 
 // The number of the rate that the word spells, if it spells one.
 fn number_of(rates: &[Rate], word: &[u8]) -> Option<usize>
     ensures { result ≡ number_in rates.now (rate_of word.now) }
 {
-    match Rate::read(word) {
-        Some(rate) => leaf_number(rates, &rate),
-        None => None,
-    }
+    Rate::read(word).and_then(|rate| leaf_number(rates, &rate))
 }
 
-// Adds a number in decimal.
-fn add_number(out: &mut Vec<u8>, heap: Global, number: usize) -> Result<(), AllocError>
-    ensures { OnOk result (out.new.items ≡ out.old.items ++ decimal number) }
-{
-    let digits = number.to_string(heap)?;
-    out.extend_from_slice(digits.as_bytes())
-}
+// What is said of a word: the number of its rate, or that it spells none.
+#[derive(Drop)]
+struct Verdict(Option<usize>);
 
-// Adds what is said of a word: the number of its rate, or that it spells none.
-fn add_verdict(out: &mut Vec<u8>, heap: Global, number: Option<usize>) -> Result<(), AllocError>
-    ensures { OnOk result (out.new.items ≡ out.old.items ++ verdict number) }
-{
-    match number {
-        Some(number) => {
-            out.extend_from_slice(b" rate ")?;
-            add_number(out, heap, number)?;
+impl fmt::Display for Verdict {
+    ghost output = { λ v. Some (verdict v.0) };
+
+    fn fmt<W: fmt::Write>(&self, f: &mut fmt::Formatter<W>) -> fmt::Result {
+        match self.0 {
+            Some(number) => write!(f, " rate {number}"),
+            None => f.write_str(" no rate"),
         }
-        None => out.extend_from_slice(b" no rate")?,
     }
-    Ok(())
 }
 
-// Adds the line of the word that has the index.
-fn add_line(
-    out: &mut Vec<u8>,
-    heap: Global,
-    rates: &[Rate],
-    index: usize,
-    word: &[u8],
-) -> Result<(), AllocError>
-    ensures { OnOk result (out.new.items ≡ out.old.items ++ line rates.now index word.now) }
-{
-    add_number(out, heap, index)?;
-    out.extend_from_slice(b" ")?;
-    out.extend_from_slice(word)?;
-    add_verdict(out, heap, number_of(rates, word))?;
-    out.extend_from_slice(b"\n")?;
-    Ok(())
+// A word, and the number of the rate that it spells, if it spells one.
+#[derive(Drop)]
+struct Entry<'t> {
+    word: &'t [u8],
+    number: Option<usize>,
 }
 
-// Adds the lines of the words of the text, and says how many there are.
-fn add_lines(
-    out: &mut Vec<u8>,
-    heap: Global,
-    rates: &[Rate],
-    text: &[u8],
-) -> Result<usize, AllocError>
-    ensures count { IfOk result (λ n. n ≡ length (words_of text.now)) }
-    ensures lines { OnOk result (out.new.items ≡ out.old.items ++ lines_of rates.now 0 (words_of text.now)) }
-{
-    let mut words = Words::new(text);
-    let mut index = 0;
-    while let Some(word) = words.next() {
-        add_line(out, heap, rates, index, word)?;
-        index += 1;
+impl<'t> Entry<'t> {
+    // Adds the line of the word that has the index.
+    fn add_line(&self, out: &mut Vec<u8>, index: usize) -> Result<(), AllocError>
+        ensures { OnOk result
+            (out.new.items ≡ out.old.items ++ line_with self.now.number index self.now.word.now) }
+    {
+        let heap = *out.allocator();
+        let verdict = Verdict(self.number);
+        out.extend_from_slice(format!(in heap; "{index} ")?.as_bytes())?;
+        out.extend_from_slice(self.word)?;
+        out.extend_from_slice(format!(in heap; "{verdict}\n")?.as_bytes())
     }
-    Ok(index)
 }
 
-// Adds what is said of an input above the limit.
-fn add_warning(
-    out: &mut Vec<u8>,
+// Each word with its number.
+fn entries<'t>(
     heap: Global,
-    limit: usize,
-    input: &[u8],
-) -> Result<(), AllocError>
-    ensures { OnOk result (out.new.items ≡ out.old.items ++ warning limit input.now) }
-{
-    if input.len() <= limit {
-        return Ok(());
-    }
-    out.extend_from_slice(b"too much input: only the whole words of the first ")?;
-    add_number(out, heap, limit)?;
-    out.extend_from_slice(b" bytes are listed\n")?;
-    Ok(())
-}
-
-// Adds the last line.
-fn add_summary(
-    out: &mut Vec<u8>,
-    heap: Global,
-    words: usize,
+    words: &[&'t [u8]],
     rates: &[Rate],
-) -> Result<(), AllocError>
-    ensures { OnOk result (out.new.items ≡ out.old.items ++ summary words rates.now) }
+) -> Result<Vec<Entry<'t>>, AllocError>
+    ensures words { IfOk result (λ v. map (λ e. e.word.now) v.items ≡ map (λ w. w.now) words.now) }
+    ensures numbers { IfOk result
+        (λ v. map (λ e. e.number) v.items ≡ map (λ w. number_in rates.now (rate_of w.now)) words.now) }
 {
-    out.extend_from_slice(b"words ")?;
-    add_number(out, heap, words)?;
-    out.extend_from_slice(b", rates ")?;
-    add_number(out, heap, rates.len())?;
-    out.extend_from_slice(b", different rates ")?;
-    add_number(out, heap, different(rates))?;
-    out.extend_from_slice(b"\n")?;
-    Ok(())
+    words
+        .iter()
+        .map(|word| Entry {
+            word: *word,
+            number: number_of(rates, word),
+        })
+        .collect(heap)
+}
+
+// The lines of the entries, one after the other.
+fn lines(heap: Global, entries: &[Entry]) -> Result<Vec<u8>, AllocError>
+    ensures { IfOk result (λ v. v.items ≡ entry_lines 0 entries.now) }
+{
+    let mut out = Vec::new(heap);
+    for (index, entry) in entries.iter().enumerate() {
+        entry.add_line(&mut out, index)?;
+    }
+    Ok(out)
+}
+
+// How many different rates there are: those whose number is their own index.
+fn different(entries: &[Entry]) -> usize
+    ensures { result ≡ own_numbers entries.now }
+{
+    entries
+        .iter()
+        .filter_map(|entry| entry.number)
+        .enumerate()
+        .filter(|(index, number)| number == index)
+        .count()
+}
+
+// What is said of an input above the limit.
+fn warning(heap: Global, input: &[u8]) -> Result<String, AllocError>
+    ensures { IfOk result (λ s. string_bytes s ≡ warning LIMIT input.now) }
+{
+    if input.len() <= LIMIT {
+        return Ok(String::new(heap));
+    }
+    format!(in heap; "too much input: only the whole words of the first {LIMIT} bytes are listed\n")
+}
+
+// The last line.
+fn summary(heap: Global, words: usize, rates: usize, different: usize) -> Result<String, AllocError>
+    ensures { IfOk result (λ s. string_bytes s ≡ summary_with words rates different) }
+{
+    format!(in heap; "words {words}, rates {rates}, different rates {different}\n")
 }
 
 // The report on the input.
 pub fn report_on(heap: Global, input: &[u8]) -> Result<Vec<u8>, AllocError>
     ensures { IfOk result (λ v. Reports 65536 input.now v.items) }
 {
-    let text = kept(input, LIMIT);
-    let rates = rates_of(heap, text)?;
-    let mut out = Vec::new(heap);
-    let words = add_lines(&mut out, heap, rates.as_slice(), text)?;
-    add_warning(&mut out, heap, LIMIT, input)?;
-    add_summary(&mut out, heap, words, rates.as_slice())?;
+    let words = words(heap, kept(input, LIMIT))?;
+    let rates = rates_of(heap, &words)?;
+    let entries = entries(heap, &words, &rates)?;
+    let mut out = lines(heap, &entries)?;
+    let warning = warning(heap, input)?;
+    out.extend_from_slice(warning.as_bytes())?;
+    let summary = summary(heap, words.len(), rates.len(), different(&entries))?;
+    out.extend_from_slice(summary.as_bytes())?;
     Ok(out)
 }

@@ -1,5 +1,6 @@
 -- Each answer is right exactly where its rule applies. Assumes nothing.
 use Rattle.std.proofs.Common.{◌≡◌, ℕ, Bool, ◌↔◌, List, Some, None, Ok, Option, Result, sym, refl, ◌∙◌, subst, arith}
+use Rattle.std.proofs.lemmas.Option.{none-some}
 use Rattle.recipe.specs.declared.labels.Finding.{Finding}
 use Rattle.recipe.specs.declared.labels.Label.{Label}
 use Rattle.recipe.specs.declared.refusals.Refusal.{Refusal}
@@ -8,7 +9,6 @@ use Rattle.recipe.specs.Fillings.{Pair}
 use Rattle.recipe.specs.Looks.{AllHave, Looks}
 use Rattle.recipe.specs.Tables.{Table}
 use Rattle.recipe.specs.Tells.{Decided, Tells}
-use Rattle.recipe.proofs.Firsts.{none≢some}
 use Rattle.recipe.proofs.OneAnswer.{looks_once}
 
 -- neither side holds
@@ -43,7 +43,7 @@ module _ {L : Type 0} (same : L → L → Bool) where
   }
 
   pub tells_exact : TellsExact same
-  tells_exact T pairs p q r none (Tells.refused e) = absurd (none≢some _ (sym none ∙ e))
+  tells_exact T pairs p q r none (Tells.refused e) = absurd (none-some _ (sym none ∙ e))
   tells_exact T pairs p q r none (Tells.decided e d) = decided_exact T _ d
 
   module _ (T : Table L) (ls : List L) (pairs : List Pair) (p : ℕ) (path : List ℕ) where

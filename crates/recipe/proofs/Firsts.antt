@@ -1,23 +1,13 @@
 -- The laws of the first answer of a row. Assumes nothing.
-use Rattle.std.proofs.Common.{◌≡◌, ℕ, zero, suc, ◌<◌, false, List, [], ◌∷◌, length, is_some, Some, None, Option, sym, refl, ap, inl, inr, arith}
-use Rattle.std.proofs.lemmas.Bool.{cases_lt, false≢true, true≢false}
-use Rattle.std.specs.List.{slice_get}
+use Rattle.std.proofs.Common.{◌≡◌, ℕ, zero, suc, ◌<◌, false, is_some, Some, None, Option, sym, refl, inl, inr, arith}
+use Rattle.std.proofs.lemmas.Option.{none-some}
+use Rattle.std.proofs.lemmas.Bool.{cases_lt, true≢false}
 use Rattle.std.specs.Option.{option_map, option_or}
 use Rattle.recipe.specs.Common.{first_below}
-
--- what is none is not some
-pub none≢some : {A : Type 0} (a : A) → None ≡ Some a → ⊥
-none≢some a e = false≢true (ap is_some e)
 
 pub not_some : {A : Type 0} (o : Option A) → is_some o ≡ false → o ≡ None
 not_some None e = refl
 not_some (Some n) e = absurd (true≢false e)
-
--- what stands in a list stands below its length
-pub nth_within : {A : Type 0} (xs : List A) (i : ℕ) (a : A) → slice_get xs i ≡ Some a → i < length xs
-nth_within [] i a e = absurd (none≢some a e)
-nth_within (x ∷ xs) zero a e = omega arith
-nth_within (x ∷ xs) (suc i) a e = let low = nth_within xs i a e in omega arith
 
 -- a function of the first of two answers
 pub mapped_or_other : {A B : Type 0} (g : A → B) (x y : Option A) → option_map g (option_or x y) ≡ option_or (option_map g x) (option_map g y)
@@ -37,7 +27,7 @@ module _ {A : Type 0} (f : ℕ → Option A) where
   -- one step of `first_none`
   none_more : (n : ℕ) (o : Option A) → option_or o (f n) ≡ None → (o ≡ None → (j : ℕ) → j < n → f j ≡ None) → (k : ℕ) → k < suc n → f k ≡ None
   none_more n None e below k h = upto (λ j. f j ≡ None) n k h (below refl) e
-  none_more n (Some a) e below k h = absurd (none≢some a (sym e))
+  none_more n (Some a) e below k h = absurd (none-some a (sym e))
 
   -- without a first answer no number has an answer
   pub first_none : (n : ℕ) → first_below f n ≡ None → (k : ℕ) → k < n → f k ≡ None
@@ -59,7 +49,7 @@ module _ {A : Type 0} (f : ℕ → Option A) where
   -- the first answer is that of a number below n, and no lower number has an answer
   pub first_found : (n : ℕ) (a : A) → first_below f n ≡ Some a → (k : ℕ) × (k < n) × (f k ≡ Some a) × ((j : ℕ) → j < k → f j ≡ None)
   unfolding first_below
-  first_found zero a e = absurd (none≢some a e)
+  first_found zero a e = absurd (none-some a e)
   first_found (suc n) a e = found_more n a (first_below f n) refl e (first_found n a)
 
   -- the answer of a number below which no number has one is the first

@@ -1,12 +1,13 @@
 -- The laws of holders and scopes. Assumes nothing.
 use Rattle.std.proofs.Common.{◌≡◌, ℕ, zero, suc, ◌<◌, ◌≤◌, Bool, true, false, cond, eqb, List, [], ◌∷◌, Some, None, Option, sym, refl, ap, ◌∙◌, inl, inr, arith}
+use Rattle.std.proofs.lemmas.Option.{none-some}
 use Rattle.std.proofs.lemmas.Bool.{cond-true, eq-eqb, eqb-true}
 use Rattle.recipe.specs.Common.{In, first_below}
 use Rattle.recipe.specs.Recipes.{Part}
 use Rattle.recipe.specs.Scopes.{Scope, extended}
 use Rattle.recipe.specs.Tables.{Table, Holder, parts, holds_by, holder_below, holder, scope_under, scope_within, scope}
 use Rattle.recipe.specs.Validity.{Ordered}
-use Rattle.recipe.proofs.Firsts.{none≢some, first_none, first_found}
+use Rattle.recipe.proofs.Firsts.{first_none, first_found}
 
 -- the place p as the holder of a part
 abbrev pub holds : ℕ → Part ℕ → Holder
@@ -19,19 +20,19 @@ holds_more p c x xs h false is e rest = let (y, i, at, by) = rest e in (y, inr i
 
 -- what holds a place has it as a part
 pub held_part : (p : ℕ) (xs : List (Part ℕ)) (c : ℕ) (h : Holder) → holds_by p xs c ≡ Some h → (y : Part ℕ) × In y xs × (y.at ≡ c) × (h ≡ holds p y)
-held_part p [] c h e = absurd (none≢some h e)
+held_part p [] c h e = absurd (none-some h e)
 held_part p (x ∷ xs) c h e = holds_more p c x xs h (eqb x.at c) refl e (held_part p xs c h)
 
 -- one step of `part_held`
 held_later : (p c : ℕ) (y : Part ℕ) (ys : List (Part ℕ)) (b : Bool) → cond b (Some (holds p y)) (holds_by p ys c) ≡ None → (holds_by p ys c ≡ None → ⊥) → ⊥
-held_later p c y ys true none rest = none≢some (holds p y) (sym none)
+held_later p c y ys true none rest = none-some (holds p y) (sym none)
 held_later p c y ys false none rest = rest none
 
 -- a part is held
 pub part_held : (p : ℕ) (xs : List (Part ℕ)) (x : Part ℕ) → In x xs → holds_by p xs x.at ≡ None → ⊥
 part_held p [] x i none = i
 part_held p (y ∷ ys) x (inl e) none =
-    none≢some (holds p y) (sym none ∙ cond-true _ _ _ (eq-eqb y.at x.at (ap (λ z. z.at) (sym e))))
+    none-some (holds p y) (sym none ∙ cond-true _ _ _ (eq-eqb y.at x.at (ap (λ z. z.at) (sym e))))
 part_held p (y ∷ ys) x (inr i) none = held_later p x.at y ys (eqb y.at x.at) none (part_held p ys x i)
 
 -- the scope below a holder, from scopes that agree at the holder

@@ -1,5 +1,6 @@
 -- At most one answer is right. Assumes nothing.
 use Rattle.std.proofs.Common.{◌≡◌, ℕ, Bool, List, Result, sym, refl, ◌∙◌, subst, arith}
+use Rattle.std.proofs.lemmas.Option.{none-some}
 use Rattle.recipe.specs.declared.refusals.Refusal.{Refusal}
 use Rattle.recipe.specs.AnswerLaws.{LooksOnce, TellsOnce}
 use Rattle.recipe.specs.Common.{Least}
@@ -8,7 +9,6 @@ use Rattle.recipe.specs.Links.{Clash}
 use Rattle.recipe.specs.Looks.{Looks}
 use Rattle.recipe.specs.Tables.{Table}
 use Rattle.recipe.specs.Tells.{Decided, Tells}
-use Rattle.recipe.proofs.Firsts.{none≢some}
 
 pub least_once : (P : ℕ → Type 0) (m n : ℕ) → Least P m → Least P n → m ≡ n
 least_once P m n a b = omega (arith, a.lowest n b.has, b.lowest m a.has)
@@ -37,27 +37,27 @@ module _ {L : Type 0} (same : L → L → Bool) where
 
   pub tells_once : TellsOnce same
   tells_once T pairs p q r s (Tells.refused d) (Tells.refused e) = cc
-  tells_once T pairs p q r s (Tells.refused d) (Tells.decided e v) = absurd (none≢some _ (sym e ∙ d))
-  tells_once T pairs p q r s (Tells.decided d u) (Tells.refused e) = absurd (none≢some _ (sym d ∙ e))
+  tells_once T pairs p q r s (Tells.refused d) (Tells.decided e v) = absurd (none-some _ (sym e ∙ d))
+  tells_once T pairs p q r s (Tells.decided d u) (Tells.refused e) = absurd (none-some _ (sym d ∙ e))
   tells_once T pairs p q r s (Tells.decided d u) (Tells.decided e v) = decided_once T _ u v
 
   pub looks_once : LooksOnce same
   looks_once T ls pairs p path r s f (Looks.refused d) (Looks.refused e) = cc
-  looks_once T ls pairs p path r s f (Looks.refused d) (Looks.label e a) = absurd (none≢some _ (sym e ∙ d))
-  looks_once T ls pairs p path r s f (Looks.refused d) (Looks.absent e a) = absurd (none≢some _ (sym e ∙ d))
-  looks_once T ls pairs p path r s f (Looks.refused d) (Looks.undecided e a) = absurd (none≢some _ (sym e ∙ d))
-  looks_once T ls pairs p path r s f (Looks.label d a) (Looks.refused e) = absurd (none≢some _ (sym d ∙ e))
+  looks_once T ls pairs p path r s f (Looks.refused d) (Looks.label e a) = absurd (none-some _ (sym e ∙ d))
+  looks_once T ls pairs p path r s f (Looks.refused d) (Looks.absent e a) = absurd (none-some _ (sym e ∙ d))
+  looks_once T ls pairs p path r s f (Looks.refused d) (Looks.undecided e a) = absurd (none-some _ (sym e ∙ d))
+  looks_once T ls pairs p path r s f (Looks.label d a) (Looks.refused e) = absurd (none-some _ (sym d ∙ e))
   looks_once T ls pairs p path r s f (Looks.label d a) (Looks.label e b) =
       let one = a f.0 f.1 in
       let two = b f.0 f.1 in
       cc
-  looks_once T ls pairs p path r s f (Looks.label d a) (Looks.absent e b) = absurd (none≢some _ (sym (b f.0 f.1) ∙ a f.0 f.1))
+  looks_once T ls pairs p path r s f (Looks.label d a) (Looks.absent e b) = absurd (none-some _ (sym (b f.0 f.1) ∙ a f.0 f.1))
   looks_once T ls pairs p path r s f (Looks.label d a) (Looks.undecided e b) = absurd (b _ a)
-  looks_once T ls pairs p path r s f (Looks.absent d a) (Looks.refused e) = absurd (none≢some _ (sym d ∙ e))
-  looks_once T ls pairs p path r s f (Looks.absent d a) (Looks.label e b) = absurd (none≢some _ (sym (a f.0 f.1) ∙ b f.0 f.1))
+  looks_once T ls pairs p path r s f (Looks.absent d a) (Looks.refused e) = absurd (none-some _ (sym d ∙ e))
+  looks_once T ls pairs p path r s f (Looks.absent d a) (Looks.label e b) = absurd (none-some _ (sym (a f.0 f.1) ∙ b f.0 f.1))
   looks_once T ls pairs p path r s f (Looks.absent d a) (Looks.absent e b) = refl
   looks_once T ls pairs p path r s f (Looks.absent d a) (Looks.undecided e b) = absurd (b _ a)
-  looks_once T ls pairs p path r s f (Looks.undecided d a) (Looks.refused e) = absurd (none≢some _ (sym d ∙ e))
+  looks_once T ls pairs p path r s f (Looks.undecided d a) (Looks.refused e) = absurd (none-some _ (sym d ∙ e))
   looks_once T ls pairs p path r s f (Looks.undecided d a) (Looks.label e b) = absurd (a _ b)
   looks_once T ls pairs p path r s f (Looks.undecided d a) (Looks.absent e b) = absurd (a _ b)
   looks_once T ls pairs p path r s f (Looks.undecided d a) (Looks.undecided e b) = refl

@@ -1,49 +1,57 @@
 -- A packed spelling gives its bytes back: no two spellings have one number. Assumes nothing.
-use Rattle.std.proofs.Common.{◌≡◌, ℕ, zero, suc, ◌<◌, List, length, get_or, sym, subst, inl, inr, arith}
-use Rattle.std.proofs.lemmas.List.{ext_get_or, get_or_past}
+use Rattle.std.proofs.Common.{w64, ◌≤◌, ap, ◌≡◌, ℕ, ◌+◌, ◌-◌, ◌<◌, List, ◌++◌, length, get_or, drop, replicate, sym, refl, ◌∙◌, subst, inl, inr, arith}
+use Rattle.std.proofs.lemmas.List.{length-append, length-drop, length-replicate, ext_get_or, get_or_past, get_or_append_left, get_or-append_right, get_or-drop}
 use Rattle.std.proofs.lemmas.Bool.{cases_lt, cases_order}
+use Rattle.std.proofs.lemmas.Nat.{be_bytes_8}
+use Rattle.std.specs.Int.{to_be_bytes}
 use Rattle.recipe.specs.Packing.{packed, Spelling}
-
-below_eight : (P : ℕ → Type 0) → P 0 → P 1 → P 2 → P 3 → P 4 → P 5 → P 6 → P 7 → (k : ℕ) → k < 8 → P k
-below_eight P a b c d e f g h zero l = a
-below_eight P a b c d e f g h (suc zero) l = b
-below_eight P a b c d e f g h (suc (suc zero)) l = c
-below_eight P a b c d e f g h (suc (suc (suc zero))) l = d
-below_eight P a b c d e f g h (suc (suc (suc (suc zero)))) l = e
-below_eight P a b c d e f g h (suc (suc (suc (suc (suc zero))))) l = f
-below_eight P a b c d e f g h (suc (suc (suc (suc (suc (suc zero)))))) l = g
-below_eight P a b c d e f g h (suc (suc (suc (suc (suc (suc (suc zero))))))) l = h
-below_eight P a b c d e f g h (suc (suc (suc (suc (suc (suc (suc (suc k)))))))) l = absurd (omega arith)
+use Rattle.recipe.proofs.Lists.{replicate_at}
 
 -- a byte of a spelling, or 0 past its end
 small : (a : List ℕ) → Spelling a → (k : ℕ) → get_or a k 0 < 256
 small a s k = elim (cases_lt k (length a)) [ inl h ↦ (s.bytes k h).1 | inr h ↦ subst (λ n. n < 256) (sym (get_or_past a k 0 h)) (omega arith) ]
 
-digits : (a b : List ℕ) → Spelling a → Spelling b → packed a ≡ packed b → (k : ℕ) → k < 8 → get_or a k 0 ≡ get_or b k 0
+-- the bytes, and zeros behind them up to eight
+abbrev pub padded : List ℕ → List ℕ
+padded bs = bs ++ drop (length bs) (replicate 8 0)
+
+-- the zeros are read as the bytes that are missing
+padded_at : (bs : List ℕ) (n k : ℕ) → get_or (bs ++ drop (length bs) (replicate n 0)) k 0 ≡ get_or bs k 0
+padded_at bs n k = elim (cases_lt k (length bs)) [
+  | inl h ↦ get_or_append_left bs _ 0 k h
+  | inr h ↦ get_or-append_right bs _ (length bs) k 0 refl h ∙ get_or-drop (length bs) (replicate n 0) (k - length bs) 0 ∙ replicate_at n (length bs + (k - length bs)) 0 ∙ sym (get_or_past bs k 0 h)
+]
+
+pub packed_padded : (bs : List ℕ) → packed (padded bs) ≡ packed bs
 unfolding packed
-digits a b s t e =
-    let l = small a s in
-    let m = small b t in
-    let d0 : get_or a 0 0 ≡ get_or b 0 0 = omega (arith, l 0, l 1, l 2, l 3, l 4, l 5, l 6, l 7, m 0, m 1, m 2, m 3, m 4, m 5, m 6, m 7) in
-    let d1 : get_or a 1 0 ≡ get_or b 1 0 = omega (arith, l 1, l 2, l 3, l 4, l 5, l 6, l 7, m 1, m 2, m 3, m 4, m 5, m 6, m 7) in
-    let d2 : get_or a 2 0 ≡ get_or b 2 0 = omega (arith, l 2, l 3, l 4, l 5, l 6, l 7, m 2, m 3, m 4, m 5, m 6, m 7) in
-    let d3 : get_or a 3 0 ≡ get_or b 3 0 = omega (arith, l 3, l 4, l 5, l 6, l 7, m 3, m 4, m 5, m 6, m 7) in
-    let d4 : get_or a 4 0 ≡ get_or b 4 0 = omega (arith, l 4, l 5, l 6, l 7, m 4, m 5, m 6, m 7) in
-    let d5 : get_or a 5 0 ≡ get_or b 5 0 = omega (arith, l 5, l 6, l 7, m 5, m 6, m 7) in
-    let d6 : get_or a 6 0 ≡ get_or b 6 0 = omega (arith, l 6, l 7, m 6, m 7) in
-    let d7 : get_or a 7 0 ≡ get_or b 7 0 = omega arith in
-    below_eight (λ k. get_or a k 0 ≡ get_or b k 0) d0 d1 d2 d3 d4 d5 d6 d7
+packed_padded bs =
+    let at = padded_at bs 8 in
+    omega (arith, at 0, at 1, at 2, at 3, at 4, at 5, at 6, at 7)
+
+padded_long : (bs : List ℕ) → length bs ≤ 8 → length (padded bs) ≡ 8
+padded_long bs h = simp (length-append, length-drop, length-replicate) (omega arith)
+
+-- the bytes of the number of a spelling are those of the spelling, and zeros
+bytes_of : (bs : List ℕ) (n : ℕ) → Spelling bs → packed bs ≡ n → to_be_bytes w64 n ≡ padded bs
+unfolding packed
+bytes_of bs n s e =
+    let at = padded_at bs 8 in
+    be_bytes_8 (padded bs) n (padded_long bs s.short) (λ k. rw (at k) (small bs s k)) (sym e ∙ omega (arith, at 0, at 1, at 2, at 3, at 4, at 5, at 6, at 7))
+
+digits : (a b : List ℕ) → Spelling a → Spelling b → packed a ≡ packed b → (k : ℕ) → get_or a k 0 ≡ get_or b k 0
+digits a b s t e k =
+    sym (padded_at a 8 k) ∙ ap (λ bs. get_or bs k 0) (sym (bytes_of a (packed b) s e) ∙ bytes_of b (packed b) t refl) ∙ padded_at b 8 k
 
 -- the shorter of two spellings would end where the other has a byte
-not_longer : (a b : List ℕ) → Spelling a → Spelling b → ((k : ℕ) → k < 8 → get_or a k 0 ≡ get_or b k 0) → length a < length b → ⊥
+not_longer : (a b : List ℕ) → Spelling a → Spelling b → ((k : ℕ) → get_or a k 0 ≡ get_or b k 0) → length a < length b → ⊥
 not_longer a b s t same h =
-    omega (arith, (t.bytes (length a) h).0, same (length a) (omega (arith, t.short)), get_or_past a (length a) 0 (omega arith))
+    omega (arith, (t.bytes (length a) h).0, same (length a), get_or_past a (length a) 0 (omega arith))
 
 pub packed_once : (a b : List ℕ) → Spelling a → Spelling b → packed a ≡ packed b → a ≡ b
 packed_once a b s t e =
     let same = digits a b s t e in
     elim (cases_order (length a) (length b)) [
-      | inl long ↦ ext_get_or 0 a b long (λ k h. same k (omega (arith, s.short)))
+      | inl long ↦ ext_get_or 0 a b long (λ k h. same k)
       | inr (inl h) ↦ absurd (not_longer a b s t same h)
-      | inr (inr h) ↦ absurd (not_longer b a t s (λ k l. sym (same k l)) h)
+      | inr (inr h) ↦ absurd (not_longer b a t s (λ k. sym (same k)) h)
     ]

@@ -1,7 +1,8 @@
 -- A table without faults is valid, and a valid table has no faults. Assumes nothing.
-use Rattle.std.proofs.Common.{◌≡◌, ℕ, zero, suc, ◌<◌, ◌≤◌, Bool, true, false, cond, ◌||◌, eqb, ltb, leb, ◌↔◌, List, [], ◌∷◌, length, get_or, is_some, is_ok, Some, None, Ok, Err, Option, Result, sym, refl, ap, ◌∙◌, subst, inl, inr, arith}
-use Rattle.std.proofs.lemmas.Option.{slice_get-get_or}
-use Rattle.std.proofs.lemmas.Bool.{cases_order, false≢true, not-false, not_from_true, and_parts, and_from, or_parts, or_from, ltb-true, ltb-false, leb-false, eqb-true, eqb-false, lt-ltb, le-ltb, lt-leb, eq-eqb, ne_eqb}
+use Rattle.std.proofs.Common.{◌≡◌, ℕ, zero, suc, ◌<◌, ◌≤◌, Bool, true, false, cond, ◌||◌, ltb, leb, ◌↔◌, List, [], ◌∷◌, length, get_or, is_some, is_ok, Some, None, Ok, Err, Option, Result, sym, refl, ap, ◌∙◌, subst, inl, inr, arith}
+use Rattle.std.proofs.lemmas.Option.{slice_get-get_or, slice_get_within}
+use Rattle.std.proofs.lemmas.Bool.{cases_order, false≢true, not-false, not_from_true, or_parts, or_from, ltb-false, leb-false, eqb-false, le-ltb, lt-leb, ne_eqb}
+use Rattle.std.proofs.lemmas.Bool.Decides.{nat_tests}
 use Rattle.std.specs.List.{slice_get}
 use Rattle.recipe.specs.declared.places.Place.{Place}
 use Rattle.recipe.specs.declared.refusals.Refusal.{Refusal}
@@ -11,7 +12,7 @@ use Rattle.recipe.specs.Tables.{Table, Form, Holder, parts, form_at, table_of, h
 use Rattle.recipe.specs.Checking.{numbers_fit, twice, outside, bad_part, held_twice, too_deep, fault_in, fault_at, needed, unless, checked}
 use Rattle.recipe.specs.Validity.{Fits, Ordered, Valid}
 use Rattle.recipe.proofs.Faults.{past, none_passes, passes_none, Clear, clear, faultless}
-use Rattle.recipe.proofs.Firsts.{not_some, nth_within, first_none, none_first}
+use Rattle.recipe.proofs.Firsts.{not_some, first_none, none_first}
 use Rattle.recipe.proofs.Holders.{holder_tells, holder_some}
 
 -- a record by its kind and numbers
@@ -20,37 +21,21 @@ place k a b = record { kind = k; a = a; b = b }
 
 -- numbers that fit, kind by kind
 fits_at : (many a b k : ℕ) → k ≤ 5 → numbers_fit many (place k a b) ≡ true → Fits many (place k a b)
-fits_at many a b zero h fit =
-    let (at_a, at_b) = and_parts (eqb a 0) (eqb b 0) fit in
-    let zero_a = eqb-true a 0 at_a in
-    let zero_b = eqb-true b 0 at_b in
-    omega arith
-fits_at many a b (suc zero) h fit =
-    let (at_a, at_b) = and_parts (ltb a many) (eqb b 0) fit in
-    let below_a = ltb-true a many at_a in
-    let zero_b = eqb-true b 0 at_b in
-    omega arith
-fits_at many a b (suc (suc zero)) h fit =
-    let (at_a, at_b) = and_parts (ltb a 64) (eqb b 0) fit in
-    let below_a = ltb-true a 64 at_a in
-    let zero_b = eqb-true b 0 at_b in
-    omega arith
-fits_at many a b (suc (suc (suc zero))) h fit =
-    let (at_a, at_b) = and_parts (ltb a 512) (eqb b 0) fit in
-    let below_a = ltb-true a 512 at_a in
-    let zero_b = eqb-true b 0 at_b in
-    omega arith
-fits_at many a b (suc (suc (suc (suc zero)))) h fit = let below_a = ltb-true a 64 fit in omega arith
-fits_at many a b (suc (suc (suc (suc (suc zero))))) h fit = omega arith
+fits_at many a b zero h fit = grind (arith, nat_tests)
+fits_at many a b (suc zero) h fit = grind (arith, nat_tests)
+fits_at many a b (suc (suc zero)) h fit = grind (arith, nat_tests)
+fits_at many a b (suc (suc (suc zero))) h fit = grind (arith, nat_tests)
+fits_at many a b (suc (suc (suc (suc zero)))) h fit = grind (arith, nat_tests)
+fits_at many a b (suc (suc (suc (suc (suc zero))))) h fit = grind (arith, nat_tests)
 fits_at many a b (suc (suc (suc (suc (suc (suc k)))))) h fit = absurd (omega arith)
 
 -- the same, back
 fit_at : (many a b k : ℕ) → Fits many (place k a b) → numbers_fit many (place k a b) ≡ true
-fit_at many a b zero f = and_from _ _ (eq-eqb a 0 (f.unused_a refl)) (eq-eqb b 0 (f.unused_b (omega arith)))
-fit_at many a b (suc zero) f = and_from _ _ (lt-ltb a many (f.leaves refl)) (eq-eqb b 0 (f.unused_b (omega arith)))
-fit_at many a b (suc (suc zero)) f = and_from _ _ (lt-ltb a 64 (f.names refl)) (eq-eqb b 0 (f.unused_b (omega arith)))
-fit_at many a b (suc (suc (suc zero))) f = and_from _ _ (lt-ltb a 512 (f.holes refl)) (eq-eqb b 0 (f.unused_b (omega arith)))
-fit_at many a b (suc (suc (suc (suc zero)))) f = lt-ltb a 64 (f.binders refl)
+fit_at many a b zero f = grind (arith, nat_tests, f)
+fit_at many a b (suc zero) f = grind (arith, nat_tests, f)
+fit_at many a b (suc (suc zero)) f = grind (arith, nat_tests, f)
+fit_at many a b (suc (suc (suc zero))) f = grind (arith, nat_tests, f)
+fit_at many a b (suc (suc (suc (suc zero)))) f = grind (arith, nat_tests, f)
 fit_at many a b (suc (suc (suc (suc (suc zero))))) f = refl
 fit_at many a b (suc (suc (suc (suc (suc (suc k)))))) f = refl
 
@@ -87,7 +72,7 @@ module _ {L : Type 0} (places : List Place) (ls : List L) where
   module _ (none : (p : ℕ) → p < length places → fault_at places ls p ≡ None) where
     -- the tests of a record
     tests : (p : ℕ) (r : Place) → slice_get places p ≡ Some r → Clear (length ls) r (bad_part T p) (held_twice T p) (too_deep T p)
-    tests p r at = clear (length ls) p r _ _ _ (ap (fault_in T (length ls) p) (sym at) ∙ none p (nth_within places p r at))
+    tests p r at = clear (length ls) p r _ _ _ (ap (fault_in T (length ls) p) (sym at) ∙ none p (slice_get_within places p r at))
 
     -- the tests of a place that has a part
     tests_of : (p : ℕ) (x : Part ℕ) → In x (parts (T.form p)) → (r : Place) × Clear (length ls) r (bad_part T p) (held_twice T p) (too_deep T p)

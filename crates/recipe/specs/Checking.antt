@@ -1,6 +1,6 @@
 -- What is asked of a table, place by place, and the answer of `check`. Assumes nothing. (docs/RULES.md, "Checking a table")
 use Rattle.std.specs.Prelude.{ℕ, suc, ◌+◌, ◌*◌, max, Bool, true, false, cond, not, ◌&&◌, ◌||◌, List, [], ◌∷◌, length, is_some, Some, None, Ok, Err, Option, Result, ◌==◌, nat_eq, nat_le, nat_lt, slice_index_or}
-use Rattle.std.specs.List.{slice_get}
+use Rattle.std.specs.List.{slice_get, list_any}
 use Rattle.recipe.specs.declared.places.Place.{Place}
 use Rattle.recipe.specs.declared.refusals.Refusal.{Refusal}
 use Rattle.recipe.specs.Common.{first_below, first_that}
@@ -15,15 +15,10 @@ numbers_fit many x =
     x.kind
     true
 
--- some part passes the test
-abbrev pub any_part : (Part ℕ → Bool) → List (Part ℕ) → Bool
-any_part test [] = false
-any_part test (x ∷ xs) = test x || any_part test xs
-
 -- two of the parts are one place
 abbrev pub twice : List (Part ℕ) → Bool
 twice [] = false
-twice (x ∷ xs) = any_part (λ y. nat_eq y.at x.at) xs || twice xs
+twice (x ∷ xs) = list_any (λ y. nat_eq y.at x.at) xs || twice xs
 
 -- a part is not a higher place than its holder p, or past the end of a table of `size` places
 abbrev pub outside : ℕ → ℕ → Part ℕ → Bool
@@ -31,12 +26,12 @@ outside p size x = nat_le x.at p || nat_le size x.at
 
 -- a part is held already, or two of the parts are one place
 abbrev pub held_among : (ℕ → Bool) → List (Part ℕ) → Bool
-held_among held xs = any_part (λ x. held x.at) xs || twice xs
+held_among held xs = list_any (λ x. held x.at) xs || twice xs
 
 module _ {L : Type 0} (T : Table L) (p : ℕ) where
   -- a part of p is not a higher place than p, or past the end
   abbrev pub bad_part : Bool
-  bad_part = any_part (outside p T.size) (parts (T.form p))
+  bad_part = list_any (outside p T.size) (parts (T.form p))
 
   -- a lower place has a part of p too, or two parts of p are one place
   abbrev pub held_twice : Bool
@@ -78,10 +73,10 @@ name_count (x ∷ xs) = max (above_name x) (name_count xs)
 abbrev pub needed : List Place → ℕ
 needed places = length places * (8 * name_count places + 64) + 1024
 
--- a fault, or else a number
-abbrev pub unless : ℕ → Option Refusal → Result ℕ Refusal
-unless n None = Ok n
-unless n (Some fault) = Err fault
+-- a fault, or else an answer
+abbrev pub unless : {A : Type 0} → A → Option Refusal → Result A Refusal
+unless a None = Ok a
+unless a (Some fault) = Err fault
 
 -- the answer of `check`: the refusal of the whole, or else of the lowest place that has a fault, or else the memory needed
 abbrev pub checked : {L : Type 0} → List Place → List L → Result ℕ Refusal

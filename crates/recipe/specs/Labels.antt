@@ -1,13 +1,12 @@
 -- The label of a finished recipe at a path. Assumes nothing. (docs/RULES.md, "Labels")
-use Rattle.std.specs.Prelude.{ℕ, suc, ◌-◌, cond, List, [], ◌∷◌, length, Some, None, Option, ◌==◌}
+use Rattle.std.specs.Prelude.{ℕ, suc, ◌-◌, find, List, [], ◌∷◌, length, Some, None, Option, ◌==◌}
 use Rattle.recipe.specs.declared.labels.Label.{Label}
 use Rattle.recipe.specs.Recipes.{Recipe, Part, recipe_parts}
 use Rattle.recipe.specs.Scopes.{Scope, extended, inner}
 
 -- the part to which a step leads, if there is one
 abbrev pub part_at : {X : Type 0} → ℕ → List (Part X) → Option (Part X)
-part_at s [] = None
-part_at s (x ∷ xs) = cond (x.step == s) (Some x) (part_at s xs)
+part_at s = find (λ x. x.step == s)
 
 -- a name, by its inner number among the binders passed: free, or local with the level of its binder, counted from the outermost
 abbrev pub name_label : Scope → ℕ → Option ℕ → Label

@@ -5,12 +5,14 @@ pub mod Equality
 pub mod EqualityLaws
 pub mod Fillings
 pub mod Histories
+pub mod Kinds
 pub mod Labels
 pub mod Links
 pub mod Looks
 pub mod Marks
 pub mod Numbering
 pub mod Packing
+pub mod Printing
 pub mod Recipes
 pub mod Refusals
 pub mod Sameness

@@ -1,5 +1,5 @@
--- The number of each refusal, and what it carries. Assumes nothing. (docs/RULES.md, "Refusals")
-use Rattle.std.specs.Prelude.{ℕ, Some, None, Option}
+-- The number of each refusal, what it carries, and how it is printed. Assumes nothing. (docs/RULES.md, "Refusals")
+use Rattle.std.specs.Prelude.{ℕ, List, ◌++◌, Some, None, codes, decimal, Option}
 use Rattle.recipe.specs.declared.refusals.Refusal.{Refusal}
 
 -- 1 to 7 refuse a table or its memory, 11 to 18 a call on a sheet, 21 to 25 a text
@@ -47,3 +47,12 @@ carried_by (Refusal.Misplaced offset) = (offset, None)
 carried_by (Refusal.Unfinished offset) = (offset, None)
 carried_by (Refusal.NoRoom offset) = (offset, None)
 carried_by (Refusal.UnreadLeaf offset) = (offset, None)
+
+-- one number in decimal, or two with a space between them
+abbrev pub carried_text : ℕ × Option ℕ → List ℕ
+carried_text (first, None) = decimal first
+carried_text (first, Some second) = decimal first ++ codes " " ++ decimal second
+
+-- the word refused, the number and what is carried
+abbrev pub refusal_text : Refusal → List ℕ
+refusal_text r = codes "refused " ++ decimal (number_of_refusal r) ++ codes " " ++ carried_text (carried_by r)

@@ -2,6 +2,7 @@
 #![tactic(auto)]
 
 mod answers;
+mod checker;
 mod checking;
 mod equality;
 mod labels;
@@ -21,6 +22,6 @@ pub use labels::{Finding, Label};
 pub use leaf::Leaf;
 pub use numbering::leaf_number;
 pub use packing::pack;
-pub use places::Place;
+pub use places::{Kind, Place, UnknownKind};
 pub use refusals::Refusal;
 pub use table_laws::tables_are_read_by_parts;

@@ -7,12 +7,7 @@ use crate::leaf::Leaf;
 fn first_same<L: Leaf>(leaves: &[L], leaf: &L) -> Option<usize>
     ensures { Lowest L.equates leaves.now leaf.now result }
 {
-    for i in 0..leaves.len() {
-        if leaves[i].same(leaf) {
-            return Some(i);
-        }
-    }
-    None
+    leaves.iter().position(|other| other.same(leaf))
 }
 
 // The number of `leaf` in `leaves`: the lowest index of a same leaf, or none. A leaf of the list has one,

@@ -1,9 +1,12 @@
 // Why a call of the library refuses, with what the refusal carries.
-ghost use Rattle.std.specs.Prelude.{◌≡◌};
-ghost use Rattle.recipe.specs.Refusals.{carried_by, number_of_refusal};
+ghost use Rattle.std.specs.Prelude.{◌≡◌, Some};
+ghost use Rattle.recipe.specs.Refusals.{carried_by, number_of_refusal, refusal_text};
+
+use std::error::Error;
+use std::fmt;
 
 // One case for each number; the numbers are those of `number`.
-#[derive(Clone, Copy)]
+#[derive(Clone, Copy, Debug, PartialEq, Eq)]
 pub enum Refusal {
     // the table has more than 512 places, or the list more than 512 leaves
     TooLarge,
@@ -102,3 +105,18 @@ impl Refusal {
         }
     }
 }
+
+// The word refused, the number and what is carried, as in `refused 14 4 5`.
+impl fmt::Display for Refusal {
+    ghost output = { λ refusal. Some (refusal_text refusal) };
+
+    fn fmt<W: fmt::Write>(&self, f: &mut fmt::Formatter<W>) -> fmt::Result {
+        let number = self.number();
+        match self.carried() {
+            (first, None) => write!(f, "refused {number} {first}"),
+            (first, Some(second)) => write!(f, "refused {number} {first} {second}"),
+        }
+    }
+}
+
+impl Error for Refusal {}

@@ -4,17 +4,11 @@
 use rate_report::{LIMIT, report_on};
 use std::io::{Read, Write};
 
-fn run(rt: &HostRuntime) -> anyhow::Result<()> {
+fn main(rt: HostRuntime) -> anyhow::Result<()> {
     let mut input = Vec::new(rt.alloc());
     // One byte past the limit tells that there is too much.
-    let mut source = rt.stdin().take(LIMIT as u64 + 1);
-    source.read_to_end(&mut input)?;
-    let report = report_on(rt.alloc(), input.as_slice())?;
-    let mut out = rt.stdout();
-    out.write_all(report.as_slice())?;
+    rt.stdin().take(LIMIT as u64 + 1).read_to_end(&mut input)?;
+    let report = report_on(rt.alloc(), &input)?;
+    rt.stdout().write_all(&report)?;
     Ok(())
-}
-
-fn main(rt: HostRuntime) -> anyhow::Result<()> {
-    run(&rt)
 }

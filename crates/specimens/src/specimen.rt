@@ -4,53 +4,42 @@ ghost use Rattle.specimens.specs.Examples.{AllAsListed, example_of, examples};
 ghost use Rattle.specimens.specs.Examples.{identity, shadowed, renaming, endless, two_binders, twin_parts, equal_rates, unused_binders};
 
 use leaves::Rate;
-use recipe::{Finding, Label, Place, Refusal};
+use recipe::{Finding, Kind, Label, Place, Refusal};
 
-macro_rules! nil {
-    () => {
-        Place { kind: 0, a: 0, b: 0 }
+// The record of a place, by what stands there.
+macro_rules! place {
+    (nil) => {
+        place!(Nil, 0, 0)
     };
-}
-
-macro_rules! leaf {
-    ($number:expr) => {
-        Place { kind: 1, a: $number, b: 0 }
+    (leaf $number:expr) => {
+        place!(Leaf, $number, 0)
     };
-}
-
-macro_rules! name {
-    ($number:expr) => {
-        Place { kind: 2, a: $number, b: 0 }
+    (name $number:expr) => {
+        place!(Name, $number, 0)
     };
-}
-
-macro_rules! hole {
-    ($number:expr) => {
-        Place { kind: 3, a: $number, b: 0 }
+    (hole $number:expr) => {
+        place!(Hole, $number, 0)
     };
-}
-
-macro_rules! bind {
-    ($name:expr, $inside:expr) => {
-        Place { kind: 4, a: $name, b: $inside }
+    (bind $name:expr, $inside:expr) => {
+        place!(Bind, $name, $inside)
     };
-}
-
-macro_rules! call {
-    ($left:expr, $right:expr) => {
-        Place { kind: 5, a: $left, b: $right }
+    (call $left:expr, $right:expr) => {
+        place!(Call, $left, $right)
+    };
+    ($kind:ident, $a:expr, $b:expr) => {
+        Place { kind: Kind::$kind as u32, a: $a, b: $b }
     };
 }
 
 // A call on a sheet, with its answer.
-#[derive(Clone, Copy)]
+#[derive(Clone, Copy, Debug, PartialEq, Eq)]
 pub enum Call {
     Tell(usize, usize, Result<(), Refusal>),
     Look(usize, &'static [u8], Result<Finding, Refusal>),
 }
 
 // Recipes as text, the spellings of their names, the table that they are read as, and calls on the sheet of that table.
-#[derive(Clone, Copy)]
+#[derive(Clone, Copy, Debug, PartialEq, Eq)]
 pub struct Specimen {
     pub recipes: &'static str,
     pub names: &'static [&'static str],
@@ -59,6 +48,9 @@ pub struct Specimen {
     pub calls: &'static [Call],
 }
 
+// Each example is a function, whose contract says which one it is: as constants in one function they are more than the
+// check computes at once.
+
 // X can only be the name a.
 fn identity() -> Specimen
     ensures { example_of result ≡ identity }
@@ -66,7 +58,12 @@ fn identity() -> Specimen
     Specimen {
         recipes: "(lambda (a) X) (lambda (b) b)",
         names: &["a", "b"],
-        places: &[bind!(0, 1), hole!(0), bind!(1, 3), name!(1)],
+        places: &[
+            place!(bind 0, 1),
+            place!(hole 0),
+            place!(bind 1, 3),
+            place!(name 1),
+        ],
         leaves: &[],
         calls: &[
             Call::Tell(0, 2, Ok(())),
@@ -83,12 +80,12 @@ fn shadowed() -> Specimen
         recipes: "(lambda (a) (lambda (a) X)) (lambda (c) (lambda (d) c))",
         names: &["a", "c", "d"],
         places: &[
-            bind!(0, 1),
-            bind!(0, 2),
-            hole!(0),
-            bind!(1, 4),
-            bind!(2, 5),
-            name!(1),
+            place!(bind 0, 1),
+            place!(bind 0, 2),
+            place!(hole 0),
+            place!(bind 1, 4),
+            place!(bind 2, 5),
+            place!(name 1),
         ],
         leaves: &[],
         calls: &[Call::Tell(0, 3, Err(Refusal::NamesDisagree { place: 5 }))],
@@ -102,7 +99,13 @@ fn renaming() -> Specimen
     Specimen {
         recipes: "(lambda (a) X) (lambda (y) (lambda (a) y))",
         names: &["a", "y"],
-        places: &[bind!(0, 1), hole!(0), bind!(1, 3), bind!(0, 4), name!(1)],
+        places: &[
+            place!(bind 0, 1),
+            place!(hole 0),
+            place!(bind 1, 3),
+            place!(bind 0, 4),
+            place!(name 1),
+        ],
         leaves: &[],
         calls: &[
             Call::Tell(0, 2, Ok(())),
@@ -119,7 +122,12 @@ fn endless() -> Specimen
     Specimen {
         recipes: "X (X '())",
         names: &[],
-        places: &[hole!(0), call!(2, 3), hole!(0), nil!()],
+        places: &[
+            place!(hole 0),
+            place!(call 2, 3),
+            place!(hole 0),
+            place!(nil),
+        ],
         leaves: &[],
         calls: &[Call::Tell(0, 1, Err(Refusal::Cyclic { place: 0 }))],
     }
@@ -133,12 +141,12 @@ fn unused_binders() -> Specimen
         recipes: "(lambda (a) X) (lambda (c) X) X a",
         names: &["a", "c"],
         places: &[
-            bind!(0, 1),
-            hole!(0),
-            bind!(1, 3),
-            hole!(0),
-            hole!(0),
-            name!(0),
+            place!(bind 0, 1),
+            place!(hole 0),
+            place!(bind 1, 3),
+            place!(hole 0),
+            place!(hole 0),
+            place!(name 0),
         ],
         leaves: &[],
         calls: &[
@@ -156,14 +164,14 @@ fn two_binders() -> Specimen
         recipes: "(lambda (a) X) (lambda (b) b) (lambda (c) X) (lambda (d) d)",
         names: &["a", "b", "c", "d"],
         places: &[
-            bind!(0, 1),
-            hole!(0),
-            bind!(1, 3),
-            name!(1),
-            bind!(2, 5),
-            hole!(0),
-            bind!(3, 7),
-            name!(3),
+            place!(bind 0, 1),
+            place!(hole 0),
+            place!(bind 1, 3),
+            place!(name 1),
+            place!(bind 2, 5),
+            place!(hole 0),
+            place!(bind 3, 7),
+            place!(name 3),
         ],
         leaves: &[],
         calls: &[
@@ -180,7 +188,12 @@ fn twin_parts() -> Specimen
     Specimen {
         recipes: "X (Y Y)",
         names: &[],
-        places: &[hole!(0), call!(2, 3), hole!(1), hole!(1)],
+        places: &[
+            place!(hole 0),
+            place!(call 2, 3),
+            place!(hole 1),
+            place!(hole 1),
+        ],
         leaves: &[],
         calls: &[
             Call::Tell(0, 1, Ok(())),
@@ -192,13 +205,13 @@ fn twin_parts() -> Specimen
 }
 
 // Two spellings of one rate.
-fn same_rate() -> Specimen
+fn equal_rates() -> Specimen
     ensures { example_of result ≡ equal_rates }
 {
     Specimen {
         recipes: "24 48/2",
         names: &[],
-        places: &[leaf!(0), leaf!(1)],
+        places: &[place!(leaf 0), place!(leaf 1)],
         leaves: &[
             Rate {
                 numerator: 24,
@@ -226,6 +239,6 @@ pub fn specimens() -> [Specimen; 8]
         unused_binders(),
         two_binders(),
         twin_parts(),
-        same_rate(),
+        equal_rates(),
     ]
 }

@@ -1,4 +1,4 @@
-use Rattle.std.proofs.Common.{refl, ◌∙◌}
+use Rattle.std.proofs.Common.{◌++◌, refl, ap, ap₂, ◌∙◌, rules}
 use Rattle.leaves.specs.RateReading.{rate_of}
 use Rattle.leaves.specs.RatesLemmas.{spelled_by}
 use Rattle.rate_report.specs.Limit.{kept}
@@ -10,10 +10,11 @@ use Rattle.rate_report.proofs.report.report_on.Goals as goal
 pub returns : goal.returns
 returns c =
     let input = c.args.input.now in
-    let read = c.in_ok-rates.ensures in
     let front = keeps 65536 input in
+    let warned = c.in_ok-extend_from_slice.ensures.items ∙ ap₂ (λ x y. x ++ y) c.in_ok-out.ensures (c.as_bytes.ensures.value ∙ c.in_ok-warning.ensures) in
+    let summed = c.in_ok-extend_from_slice-2.ensures.items ∙ ap₂ (λ x y. x ++ y) warned (c.as_bytes-2.ensures.value ∙ c.in_ok-summary.ensures) in
     record {
-      bytes = assembled 65536 input c.kept-text.result.now c.in_ok-words.words _ _ c.kept-text.ensures (c.as_slice.ensures.value ∙ read) (c.as_slice-2.ensures.value ∙ read) c.in_ok-words.ensures.count c.new-out.ensures.items c.in_ok-words.ensures.lines c.in_ok-add_warning.ensures c.in_ok-add_summary.ensures;
+      bytes = summed ∙ assembled 65536 input c.in_ok-words.words.items c.in_ok-rates.rates.items c.deref-4.result.now c.len.result c.len-2.result c.different.result (c.in_ok-words.ensures ∙ ap words c.kept.ensures) (search rules) (record { words = search rules; numbers = search rules }) (search rules) (search rules) (search rules);
       front = front;
       first = first_words 65536 input (kept 65536 input) front;
       spelled = λ word. spelled_by word (rate_of word) refl;

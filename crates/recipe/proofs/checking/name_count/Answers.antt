@@ -1,19 +1,18 @@
-use Rattle.std.proofs.Common.{◌≡◌, ◌+◌, max, get_or, drop, arith}
-use Rattle.std.proofs.lemmas.List.{at_drop_more, at_drop_all}
-use Rattle.recipe.specs.Checking.{name_count, above_name}
-use Rattle.recipe.proofs.Faults.{past}
+use Rattle.std.proofs.Common.{◌≡◌, ℕ, max, List, [], ◌∷◌, unwrap_or, fold, ap, ◌∙◌, arith, rules, tests}
+use Rattle.std.proofs.lemmas.Iterator.{YieldsList-from_slice, YieldsList-from_map}
+use Rattle.std.proofs.lemmas.Iterator.Consumers.{reduce_from_yields_List}
+use Rattle.std.proofs.lemmas.List.Folds.{max_of_map}
+use Rattle.recipe.specs.Checking.{above_name, name_count}
+use Rattle.recipe.specs.declared.places.Place.{Place}
 use Rattle.recipe.proofs.checking.name_count.Goals as goal
 
-pub loop-place-preserved : goal.loop-place-preserved
-loop-place-preserved c =
-    let n = c.loop-place.count in
-    let xs = c.args.places.now in
-    let i = c.loop-place.place-index in
-    let e : max n (name_count (drop i xs)) ≡ max n (max (above_name (get_or xs i past)) (name_count (drop (i + 1) xs))) = at_drop_more (λ ys. max n (name_count ys)) xs i past c.loop-place-test.true in
-    let m : c.max-count.result ≡ max n c.above_name.result = c.max-count.ensures in
-    omega (arith, c.above_name.ensures.value, c.above_name.ensures.bound)
+counted : (n : ℕ) (xs : List Place) → fold (λ a x. max a (above_name x)) n xs ≡ max n (name_count xs)
+counted n [] = omega arith
+counted n (x ∷ xs) = omega (arith, counted (max n (above_name x)) xs)
 
-pub returns : goal.returns
-returns c =
-    let e = at_drop_all (λ ys. max c.loop-place.count (name_count ys)) c.args.places.now c.loop-place.place-index c.loop-place-test.false in
-    omega arith
+pub returns-clause-value : goal.returns-clause-value
+returns-clause-value c =
+    let places = c.args.places.now in
+    c.unwrap_or.ensures
+    ∙ ap (λ o. unwrap_or o 0) (reduce_from_yields_List _ c.map.result _ c.max.ensures.ran (YieldsList-from_map _ above_name (YieldsList-from_slice places cc) c.map.ensures.closure (λ x b q k. search (rules, tests))))
+    ∙ max_of_map above_name places ∙ counted 0 places ∙ omega arith
