@@ -47,7 +47,7 @@ module _ {L : Type 0} (same : L → L → Bool) where
     together false true there back = back refl
     together false false there back = refl
 
-    one_number : (xs : List L) (x z : L) → same x z ≡ true → number_of same xs x ≡ number_of same xs z
+    pub one_number : (xs : List L) (x z : L) → same x z ≡ true → number_of same xs x ≡ number_of same xs z
     one_number xs x z e =
         number_ap xs x z (λ y. together (same y x) (same y z) (λ h. laws.transitive y x z h e) (λ h. laws.transitive y z x h (laws.symmetric x z e)))
 

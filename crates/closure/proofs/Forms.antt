@@ -1,0 +1,88 @@
+-- Forms and their parts: one part at a step, what kind a form is of, and where holes and parts stand in a table. Assumes nothing.
+use Rattle.std.proofs.Common.{◌≡◌, ℕ, ◌<◌, ◌≢◌, ◌⊎◌, List, [], ◌∷◌, Some, refl, ap, ◌∙◌, subst, inl, inr, arith}
+use Rattle.std.proofs.lemmas.Bool.{cases_eq, cases_lt}
+use Rattle.recipe.specs.Common.{In}
+use Rattle.recipe.specs.Fillings.{Pair}
+use Rattle.recipe.specs.Links.{kind_of}
+use Rattle.recipe.specs.Recipes.{Recipe, Part, left, right, inside, recipe_parts}
+use Rattle.recipe.specs.Tables.{Form, Table, parts}
+use Rattle.recipe.proofs.Filled.{Rising}
+use Rattle.closure.specs.Decision.{WellFormed}
+use Rattle.closure.proofs.Known.{Known, known_same}
+
+-- what lists of parts there are: no part, the inside of a bind, or the two parts of a call
+pub data Parts {X : Type 0} : List (Part X) → Type 0 where
+  no_parts : Parts []
+  one_part : {a : ℕ} {x : X} → Parts (inside a x ∷ [])
+  two_parts : {x y : X} → Parts (left x ∷ right y ∷ [])
+
+-- what is in a list of one is that one
+pub only : {A : Type 0} {x y : A} → In x (y ∷ []) → x ≡ y
+only (inl e) = e
+only (inr i) = absurd i
+
+-- of forms and of recipes
+pub form_parts : {L : Type 0} (f : Form L) → Parts (parts f)
+form_parts (Form.bind a c) = Parts.one_part
+form_parts (Form.call c d) = Parts.two_parts
+form_parts f = Parts.no_parts
+
+pub text_parts : {L : Type 0} (t : Recipe L) → Parts (recipe_parts t)
+text_parts (Recipe.bind a t) = Parts.one_part
+text_parts (Recipe.call t u) = Parts.two_parts
+text_parts t = Parts.no_parts
+
+module _ {X : Type 0} where
+  -- there are parts at three steps, and one part at a step
+  pub step_low : {xs : List (Part X)} (y : Part X) → Parts xs → In y xs → y.step < 3
+  step_low y Parts.no_parts i = absurd i
+  step_low y s i = grind arith
+
+  pub one_at_step : {xs : List (Part X)} (y z : Part X) → Parts xs → In y xs → In z xs → y.step ≡ z.step → y ≡ z
+  one_at_step y z Parts.no_parts i j e = absurd i
+  one_at_step y z s i j e = grind arith
+
+  -- of two parts at one step, both stand under binders or neither does
+  pub both_under : {xs ys : List (Part X)} (y z : Part X) (a : ℕ) → Parts xs → Parts ys → In y xs → In z ys → y.step ≡ z.step → y.under ≡ Some a → (b : ℕ) × (z.under ≡ Some b)
+  both_under y z a Parts.one_part (Parts.one_part {a = b}) i j e u = (b, ap (λ w. w.under) (only j))
+  both_under y z a s t i j e u = absurd (grind arith)
+
+module _ {L : Type 0} where
+  -- a form of the kind of a hole is one
+  pub hole_form : (f : Form L) → kind_of f ≡ 3 → (h : ℕ) × (f ≡ Form.hole h)
+  hole_form (Form.hole h) e = (h, refl)
+  hole_form f e = absurd (omega arith)
+
+  pub hole_or_not : (f : Form L) → ((h : ℕ) × (f ≡ Form.hole h)) ⊎ (kind_of f ≢ 3)
+  hole_or_not f = elim (cases_eq (kind_of f) 3) [ inl e ↦ inl (hole_form f e) | inr n ↦ inr n ]
+
+  -- whether a form is a hole, a name or a leaf that has a property
+  known_hole : {P : ℕ → Type 0} → ((h : ℕ) → Known (P h)) → (f : Form L) → Known ((h : ℕ) × (f ≡ Form.hole h) × P h)
+  known_hole {P = P} each (Form.hole h) = known_same (λ p. (h, refl, p)) (λ w. let e : w.0 ≡ h = cc in subst P e w.2) (each h)
+  known_hole each f = inr (λ w. cc)
+
+  pub known_name : {P : ℕ → Type 0} → ((x : ℕ) → Known (P x)) → (f : Form L) → Known ((x : ℕ) × (f ≡ Form.name x) × P x)
+  known_name {P = P} each (Form.name x) = known_same (λ p. (x, refl, p)) (λ w. let e : w.0 ≡ x = cc in subst P e w.2) (each x)
+  known_name each f = inr (λ w. cc)
+
+  pub known_leaf : {P : L → Type 0} → ((l : L) → Known (P l)) → (f : Form L) → Known ((l : L) × (f ≡ Form.leaf l) × P l)
+  known_leaf {P = P} each (Form.leaf l) = known_same (λ p. (l, refl, p)) (λ w. let e : w.0 ≡ l = cc in subst P e w.2) (each l)
+  known_leaf each f = inr (λ w. cc)
+
+  -- whether a form is the hole of a number, and whether two forms are one hole
+  pub known_hole_at : (h : ℕ) (f : Form L) → Known (f ≡ Form.hole h)
+  known_hole_at h f = known_same (λ w. w.1 ∙ ap Form.hole w.2) (λ e. (h, e, refl)) (known_hole {P = λ k. k ≡ h} (λ k. cases_eq k h) f)
+
+  pub known_one_hole : (f g : Form L) → Known ((h : ℕ) × (f ≡ Form.hole h) × (g ≡ Form.hole h))
+  known_one_hole f g = known_hole {P = λ h. g ≡ Form.hole h} (λ h. known_hole_at h g) f
+
+module _ {L : Type 0} {T : Table L} {m : ℕ} {pairs : List Pair} (ready : WellFormed T m pairs) where
+  pub rising : Rising T
+  rising = record { up = ready.ordered.rising; past = ready.past }
+
+  -- what has a part, or is not nil, is a place of the table
+  pub holder_inside : (p : ℕ) (y : Part ℕ) → In y (parts (T.form p)) → p < T.size
+  holder_inside p y i = let r = ready.ordered.rising p y i in omega arith
+
+  pub form_inside : (p : ℕ) → T.form p ≢ Form.nil → p < T.size
+  form_inside p n = elim (cases_lt p T.size) [ inl l ↦ l | inr l ↦ absurd (n (ready.past p l)) ]
