@@ -1,0 +1,4 @@
+pub mod Linking
+pub mod Moves
+pub mod OneMore
+pub mod Roots
