@@ -1,0 +1,11 @@
+pub mod ClashesFound
+pub mod FirstRows
+pub mod HolesJoined
+pub mod KindsThatDiffer
+pub mod LeafNumbers
+pub mod MarkedPlaces
+pub mod NonHolesFound
+pub mod PlaceParts
+pub mod PlacesLinked
+pub mod Written
+pub mod WrittenTables

@@ -1,0 +1,12 @@
+// The nodes of a table in lent words: its records, and the forest over its places.
+#![tactic(auto)]
+
+mod clash;
+mod classes;
+mod places;
+mod records;
+
+pub use clash::find_clash;
+pub use classes::non_hole;
+pub use places::{open_places, tell_places};
+pub use records::write_records;
