@@ -5,4 +5,4 @@ mod joining;
 mod rows;
 
 pub use joining::join;
-pub use rows::{find, shorten};
+pub use rows::{find, part_of, shorten};

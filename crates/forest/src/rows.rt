@@ -11,7 +11,7 @@ pub(crate) fn parent_of(rows: &[u32], i: usize) -> usize
 }
 
 // The part that a node remembers for a side, or none.
-pub(crate) fn part_of(rows: &[u32], i: usize, side: usize) -> Option<usize>
+pub fn part_of(rows: &[u32], i: usize, side: usize) -> Option<usize>
     requires node { IsNode rows.now i }
     requires sides { side < 3 }
     ensures { result ≡ remembered rows.now i side }

@@ -1,11 +1,15 @@
 pub mod ClashesFound
+pub mod CyclesFound
 pub mod FirstRows
 pub mod HolesJoined
 pub mod KindsThatDiffer
 pub mod LeafNumbers
 pub mod MarkedPlaces
 pub mod NonHolesFound
+pub mod MarkedRoots
+pub mod MissedGoals
 pub mod PlaceParts
+pub mod PlacesInside
 pub mod PlacesLinked
 pub mod Written
 pub mod WrittenTables

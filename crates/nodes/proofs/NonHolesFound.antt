@@ -4,15 +4,16 @@ use Rattle.std.proofs.lemmas.Bool.{cases_eq, cases_lt}
 use Rattle.recipe.specs.Fillings.{Pair}
 use Rattle.recipe.specs.Links.{Linked, kind_of}
 use Rattle.nodes.specs.NonHoles.{FindsNonHole, NonHoleMate}
-use Rattle.nodes.specs.Opposed.{LowestBelow}
+use Rattle.nodes.specs.Searches.{LowestBelow}
 use Rattle.nodes.specs.PlaceClasses.{PlacesJoined, RootsLink}
 use Rattle.nodes.specs.Records.{written}
-use Rattle.nodes.proofs.ClashesFound.{form_there, linked_inside}
+use Rattle.nodes.proofs.ClashesFound.{form_there, form_past}
+use Rattle.nodes.proofs.PlacesInside.{linked_inside, moved_in}
 
 module _ (n : ℕ) (ws rows : List ℕ) (told : List Pair) (joined : PlacesJoined (written n ws) told rows) (roots : RootsLink (written n ws) told rows) (p : ℕ) (place : p < n) where
   -- places that are linked with p and are no holes are the places of the table with its root that are none
   inside : (q : ℕ) → Linked (written n ws) told p q → q < n
-  inside q l = elim (linked_inside n ws rows told joined l) [ inl e ↦ rw (← e) place | inr (h, k) ↦ k ]
+  inside q l = moved_in n (linked_inside (written n ws) told rows (form_past n ws) joined l) place
 
   mate : (q : ℕ) → Linked (written n ws) told p q → kind_of ((written n ws).form q) ≢ 3 → NonHoleMate rows ws p q
   mate q l solid = let k = inside q l in record { one_root = (roots p q place k).1 l; no_hole = rw (form_there n ws q k) at solid }

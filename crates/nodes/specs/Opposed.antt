@@ -1,5 +1,5 @@
 -- Places with one root that differ, as a search of the rows and the words finds them. Only private functions cite it. Assumes nothing.
-use Rattle.std.specs.Prelude.{◌≡◌, ℕ, ◌+◌, ◌*◌, ◌<◌, ◌≢◌, List, length, Some, None, Option, MatchOption, nat_eq, slice_index}
+use Rattle.std.specs.Prelude.{◌≡◌, ℕ, ◌+◌, ◌*◌, ◌<◌, ◌≢◌, List, length, Some, None, Option, nat_eq, slice_index}
 use Rattle.forest.specs.Rows.{node_or_none, root}
 use Rattle.recipe.specs.Links.{Differ, kind_of}
 use Rattle.nodes.specs.Records.{written_form}
@@ -12,11 +12,6 @@ HasRow ws p = 8 * p + 7 < length ws
 pub record Opposed (rows ws : List ℕ) (p q : ℕ) : Type 0 where
   pub one_root : root rows p ≡ root rows q
   pub differ : Differ nat_eq (written_form ws p) (written_form ws q)
-
--- r is the lowest number below n with the property, and none only where none has it
-abbrev pub LowestBelow : ℕ → (ℕ → Type 0) → Option ℕ → Type 0
-LowestBelow n P r =
-    MatchOption r ((k : ℕ) → k < n → P k → ⊥) (λ k. (k < n) × P k × ((j : ℕ) → j < k → P j → ⊥))
 
 -- two of the n lowest places have one root, and differ
 abbrev pub SomeOpposed : ℕ → List ℕ → List ℕ → Type 0

@@ -4,7 +4,8 @@ ghost use Rattle.forest.specs.Rows.{IsNode, Rows};
 ghost use Rattle.recipe.specs.Kinds.{code_of};
 ghost use Rattle.recipe.specs.Links.{Differ, kind_of};
 ghost use Rattle.nodes.specs.Clashes.{FindsClash};
-ghost use Rattle.nodes.specs.Opposed.{HasRow, LowestBelow, Marked, Opposed, SomeOpposed, marked_for};
+ghost use Rattle.nodes.specs.Opposed.{HasRow, Marked, Opposed, SomeOpposed, marked_for};
+ghost use Rattle.nodes.specs.Searches.{LowestBelow};
 ghost use Rattle.nodes.specs.PlaceClasses.{PlacesJoined, RootsLink};
 ghost use Rattle.nodes.specs.Records.{HasRows, written, written_form};
 

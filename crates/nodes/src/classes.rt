@@ -2,7 +2,7 @@
 ghost use Rattle.std.specs.Prelude.{◌≡◌, ℕ, ◌*◌, ◌<◌, ◌≤◌, length};
 ghost use Rattle.forest.specs.Rows.{Rows};
 ghost use Rattle.nodes.specs.NonHoles.{FindsNonHole, NonHoleMate};
-ghost use Rattle.nodes.specs.Opposed.{LowestBelow};
+ghost use Rattle.nodes.specs.Searches.{LowestBelow};
 ghost use Rattle.nodes.specs.PlaceClasses.{PlacesJoined, RootsLink};
 ghost use Rattle.nodes.specs.Records.{HasRows, written};
 
