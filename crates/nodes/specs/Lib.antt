@@ -1,5 +1,11 @@
 pub mod Clashes
 pub mod Cycles
+pub mod HoldersWritten
+pub mod MisnamedRoots
+pub mod Misnaming
+pub mod NameClasses
+pub mod NameRows
+pub mod NameSteps
 pub mod NonHoles
 pub mod Opposed
 pub mod PlaceClasses

@@ -4,11 +4,19 @@
 mod clash;
 mod classes;
 mod cycle;
+mod decision;
+mod misnamed;
+mod names;
 mod places;
 mod records;
+mod scopes;
 
 pub use clash::find_clash;
 pub use classes::non_hole;
 pub use cycle::find_cycle;
+pub use decision::decide;
+pub use misnamed::find_misnamed;
+pub use names::open_names;
 pub use places::{open_places, tell_places};
 pub use records::write_records;
+pub use scopes::{equal_name, write_holders};

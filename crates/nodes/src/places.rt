@@ -57,7 +57,7 @@ fn init_rows(rows: &mut [u32], words: &[u32], size: usize)
 }
 
 // Whether a place is the hole of a number.
-fn is_hole(words: &[u32], p: usize, number: u32) -> bool
+pub(crate) fn is_hole(words: &[u32], p: usize, number: u32) -> bool
     requires { 8 * p + 2 < length words.now }
     ensures { (result ≡ true) ↔ (written_form words.now p ≡ Form.hole number) }
 {
@@ -65,7 +65,7 @@ fn is_hole(words: &[u32], p: usize, number: u32) -> bool
 }
 
 // The lowest place that is the hole of a number, where `p` is one.
-fn first_of_hole(words: &[u32], number: u32, p: usize) -> usize
+pub(crate) fn first_of_hole(words: &[u32], number: u32, p: usize) -> usize
     requires row { 8 * p + 2 < length words.now }
     requires here { written_form words.now p ≡ Form.hole number }
     ensures { Least (λ q. written_form words.now q ≡ Form.hole number) result }

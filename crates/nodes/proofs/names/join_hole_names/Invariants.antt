@@ -1,0 +1,6 @@
+use Rattle.nodes.specs.NameSteps.{BindersAndBelow, NamesAlways}
+use Rattle.nodes.specs.Records.{written}
+use Rattle.nodes.proofs.names.join_hole_names.Given as goal
+
+abbrev pub invariant-loop-p : goal.invariant-loop-p
+invariant-loop-p l = NamesAlways (written l.size l.words) l.names (BindersAndBelow (written l.size l.words) l.names l.p) l.rows

@@ -1,0 +1,6 @@
+use Rattle.std.proofs.Common.{◌≡◌, ℕ, ◌<◌, None}
+use Rattle.nodes.specs.HoldersWritten.{SameForms, written_holder}
+use Rattle.nodes.proofs.scopes.clear_holders.Given as goal
+
+abbrev pub invariant-loop-p : goal.invariant-loop-p
+invariant-loop-p l = record { none : (k : ℕ) → k < l.p → written_holder l.words k ≡ None; forms : SameForms l.fn.words l.words }

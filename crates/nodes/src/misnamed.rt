@@ -1,0 +1,209 @@
+// Finding name places that are spoiled.
+ghost use Rattle.std.specs.Prelude.{◌≡◌, ◌≢◌, ℕ, suc, ◌+◌, ◌*◌, ◌<◌, ◌≤◌, ◌↔◌, List, length, true, false};
+ghost use Rattle.recipe.specs.Fillings.{Pair};
+ghost use Rattle.recipe.specs.Tables.{Form};
+ghost use Rattle.closure.specs.Decision.{WellFormed};
+ghost use Rattle.forest.specs.Rows.{IsNode, Rows};
+ghost use Rattle.nodes.specs.MisnamedRoots.{ApartFrom, DoubleRoot, MisnamedRoot, NamesBelow, SpoiledRoot, name_of_form, name_root};
+ghost use Rattle.nodes.specs.Misnaming.{FindsMisnamed};
+ghost use Rattle.nodes.specs.NameClasses.{RootsJoin};
+ghost use Rattle.nodes.specs.Opposed.{HasRow};
+ghost use Rattle.nodes.specs.PlaceClasses.{RootsLink};
+ghost use Rattle.nodes.specs.Records.{HasRows, written, written_form};
+ghost use Rattle.nodes.specs.Searches.{LowestBelow};
+
+use crate::names::node_of;
+use forest::find;
+use recipe::Kind;
+
+// The name of a name place, or none where the place is no name.
+fn name_of(words: &[u32], p: usize) -> Option<usize>
+    requires { HasRow words.now p }
+    ensures { result ≡ name_of_form (written_form words.now p) }
+{
+    match Kind::try_from(words[8 * p]) {
+        Ok(Kind::Name) => Some(words[8 * p + 1] as usize),
+        _ => None,
+    }
+}
+
+// The root of the name `x` at the place `p`.
+fn root_of_name(names_rows: &[u32], names: usize, p: usize, x: usize) -> usize
+    requires low { p < 512 }
+    requires few { names ≤ 64 }
+    requires forest { Rows names_rows.now }
+    requires nodes { 4 * suc (p * names + names) ≤ length names_rows.now }
+    requires name { x < names }
+    ensures { result ≡ name_root names_rows.now names p x }
+{
+    find(names_rows, node_of(names, p, x))
+}
+
+// Whether another name of the place `p` has the root of its name `x`.
+fn is_double(names_rows: &[u32], names: usize, p: usize, x: usize) -> bool
+    requires low { p < 512 }
+    requires few { names ≤ 64 }
+    requires forest { Rows names_rows.now }
+    requires nodes { 4 * suc (p * names + names) ≤ length names_rows.now }
+    requires name { x < names }
+    ensures { (result ≡ true) ↔ DoubleRoot names_rows.now names p x }
+{
+    let root = root_of_name(names_rows, names, p, x);
+    for y in 0..names {
+        if y != x && root_of_name(names_rows, names, p, y) == root {
+            return true;
+        }
+    }
+    false
+}
+
+// Whether `q` is a name place with the root of the place `p`, and its name has another root than the name `x` of `p`.
+fn is_apart_from(
+    names_rows: &[u32],
+    rows: &[u32],
+    words: &[u32],
+    names: usize,
+    p: usize,
+    x: usize,
+    q: usize,
+) -> bool
+    requires low { p < 512 }
+    requires lower { q < p }
+    requires few { names ≤ 64 }
+    requires forest { Rows rows.now }
+    requires node { IsNode rows.now p }
+    requires names_forest { Rows names_rows.now }
+    requires nodes { 4 * suc (p * names + names) ≤ length names_rows.now }
+    requires row { HasRow words.now p }
+    requires named { NamesBelow names words.now p }
+    requires name { x < names }
+    ensures { (result ≡ true) ↔ ApartFrom names_rows.now rows.now words.now names p x q }
+{
+    match name_of(words, q) {
+        Some(y) => {
+            find(rows, q) == find(rows, p)
+                && root_of_name(names_rows, names, q, y) != root_of_name(names_rows, names, p, x)
+        }
+        None => false,
+    }
+}
+
+// Whether the name `x` of the place `p` has another root than the name of some lower name place with the root of `p`.
+fn is_apart(
+    names_rows: &[u32],
+    rows: &[u32],
+    words: &[u32],
+    names: usize,
+    p: usize,
+    x: usize,
+) -> bool
+    requires low { p < 512 }
+    requires few { names ≤ 64 }
+    requires forest { Rows rows.now }
+    requires node { IsNode rows.now p }
+    requires names_forest { Rows names_rows.now }
+    requires nodes { 4 * suc (p * names + names) ≤ length names_rows.now }
+    requires row { HasRow words.now p }
+    requires named { NamesBelow names words.now p }
+    requires name { x < names }
+    ensures { (result ≡ true) ↔ (q : ℕ) × (q < p) × ApartFrom names_rows.now rows.now words.now names p x q }
+{
+    for q in 0..p {
+        if is_apart_from(names_rows, rows, words, names, p, x, q) {
+            return true;
+        }
+    }
+    false
+}
+
+// Whether the name `x` of the place `p` has the root of nowhere, or of another name of `p`, or another root than the name of
+// a lower name place with the root of `p`.
+fn is_spoiled(
+    names_rows: &[u32],
+    rows: &[u32],
+    words: &[u32],
+    names: usize,
+    p: usize,
+    x: usize,
+) -> bool
+    requires low { p < 512 }
+    requires few { names ≤ 64 }
+    requires forest { Rows rows.now }
+    requires node { IsNode rows.now p }
+    requires names_forest { Rows names_rows.now }
+    requires nodes { 4 * suc (p * names + names) ≤ length names_rows.now }
+    requires row { HasRow words.now p }
+    requires named { NamesBelow names words.now p }
+    requires name { x < names }
+    ensures { (result ≡ true) ↔ SpoiledRoot names_rows.now rows.now words.now names p x }
+{
+    root_of_name(names_rows, names, p, x) == 0
+        || is_double(names_rows, names, p, x)
+        || is_apart(names_rows, rows, words, names, p, x)
+}
+
+// Whether a place is a name place that is spoiled, as the roots of the two forests tell.
+fn is_misnamed(names_rows: &[u32], rows: &[u32], words: &[u32], names: usize, p: usize) -> bool
+    requires low { p < 512 }
+    requires few { names ≤ 64 }
+    requires forest { Rows rows.now }
+    requires node { IsNode rows.now p }
+    requires names_forest { Rows names_rows.now }
+    requires nodes { 4 * suc (p * names + names) ≤ length names_rows.now }
+    requires row { HasRow words.now p }
+    requires named { NamesBelow names words.now (suc p) }
+    ensures { (result ≡ true) ↔ MisnamedRoot names_rows.now rows.now words.now names p }
+{
+    match name_of(words, p) {
+        Some(x) => is_spoiled(names_rows, rows, words, names, p, x),
+        None => false,
+    }
+}
+
+// The lowest place that is so, if any is.
+fn search_misnamed(
+    names_rows: &[u32],
+    rows: &[u32],
+    words: &[u32],
+    size: usize,
+    names: usize,
+) -> Option<usize>
+    requires few_places { size ≤ 512 }
+    requires few { names ≤ 64 }
+    requires forest { Rows rows.now }
+    requires long { length rows.now ≡ 4 * size }
+    requires names_forest { Rows names_rows.now }
+    requires names_long { length names_rows.now ≡ 4 * suc (names * size) }
+    requires rows { HasRows size words.now }
+    requires named { NamesBelow names words.now size }
+    ensures { LowestBelow size (MisnamedRoot names_rows.now rows.now words.now names) result }
+{
+    for p in 0..size {
+        if is_misnamed(names_rows, rows, words, names, p) {
+            return Some(p);
+        }
+    }
+    None
+}
+
+// The lowest name place whose name is nowhere, or joined with another name of the place, or not joined with the name of a
+// lower linked name place, if any is. Writes nothing.
+pub fn find_misnamed(
+    names_rows: &[u32],
+    rows: &[u32],
+    words: &[u32],
+    size: usize,
+    names: usize,
+) -> Option<usize>
+    requires few_places { size ≤ 512 }
+    requires few { names ≤ 64 }
+    requires forest { Rows rows.now }
+    requires long { length rows.now ≡ 4 * size }
+    requires names_forest { Rows names_rows.now }
+    requires names_long { length names_rows.now ≡ 4 * suc (names * size) }
+    requires rows { HasRows size words.now }
+    requires named { (p x : ℕ) → (written size words.now).form p ≡ Form.name x → x < names }
+    ensures { (told : List Pair) → WellFormed (written size words.now) names told → RootsLink (written size words.now) told rows.now → RootsJoin (written size words.now) names told names_rows.now → FindsMisnamed (written size words.now) names told result }
+{
+    search_misnamed(names_rows, rows, words, size, names)
+}
