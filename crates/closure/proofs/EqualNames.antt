@@ -4,10 +4,12 @@ use Rattle.std.proofs.lemmas.Bool.{cases_eq, eqb-true}
 use Rattle.std.proofs.lemmas.Bool.Decides.{nat_tests}
 use Rattle.std.proofs.lemmas.List.{get_or_default}
 use Rattle.std.proofs.lemmas.Option.{none-some}
+use Rattle.recipe.specs.Common.{In}
 use Rattle.recipe.specs.Fillings.{Pair}
+use Rattle.recipe.specs.Recipes.{Part}
 use Rattle.recipe.specs.Numbering.{number_of, Lowest}
 use Rattle.recipe.specs.Scopes.{Scope, NameEqual, extended, inner}
-use Rattle.recipe.specs.Tables.{Table, Holder, holder, scope, scope_under, scope_within}
+use Rattle.recipe.specs.Tables.{Table, Holder, holder, parts, scope, scope_under, scope_within}
 use Rattle.recipe.proofs.EqualScopes.{name_step, name_symmetric, name_transitive, name_without}
 use Rattle.recipe.proofs.Holders.{holder_tells}
 use Rattle.recipe.proofs.Numbers.{number_lowest}
@@ -65,7 +67,7 @@ unfolding number_of
 inner_extended None Φ x k e = inr (k, e)
 inner_extended (Some a) Φ x k e = grind (arith, nat_tests)
 
-module _ {L : Type 0} {T : Table L} {m : ℕ} {pairs : List Pair} (ready : WellFormed T m pairs) where
+module _ {L : Type 0} (T : Table L) (m : ℕ) (few : (p a : ℕ) (y : Part ℕ) → In y (parts (T.form p)) → y.under ≡ Some a → a < m) where
   -- the names of a scope are binders
   within_low : (n p x k : ℕ) → inner (scope_within T n p) x ≡ Some k → x < m
   unfolding scope_within number_of
@@ -76,11 +78,15 @@ module _ {L : Type 0} {T : Table L} {m : ℕ} {pairs : List Pair} (ready : WellF
       held None at e above = absurd (none-some k e)
       held (Some h) at e above =
           let (q, low, y, i, there, by) = holder_tells T p p h at in
-          elim (inner_extended h.under (scope_within T n h.place) x k e) [ inl own ↦ ready.binders q x y i (ap (λ g. g.under) (sym by) ∙ own) | inr one ↦ above h.place one.0 one.1 ]
+          elim (inner_extended h.under (scope_within T n h.place) x k e) [ inl own ↦ few q x y i (ap (λ g. g.under) (sym by) ∙ own) | inr one ↦ above h.place one.0 one.1 ]
 
   -- so a name that is equal to one below m is below m
+  pub equal_few : (Φ : Scope) (q x y : ℕ) → x < m → NameEqual Φ x (scope T q) y → y < m
+  equal_few Φ q x y h e = elim e [ inl free ↦ omega (arith, free.2) | inr bound ↦ within_low q q y bound.0 bound.2 ]
+
+module _ {L : Type 0} {T : Table L} {m : ℕ} {pairs : List Pair} (ready : WellFormed T m pairs) where
   pub equal_low : (Φ : Scope) (q x y : ℕ) → x < m → NameEqual Φ x (scope T q) y → y < m
-  equal_low Φ q x y h e = elim e [ inl free ↦ omega (arith, free.2) | inr bound ↦ within_low q q y bound.0 bound.2 ]
+  equal_low = equal_few T m ready.binders
 
   pub equal_low_back : (p x y : ℕ) (Ψ : Scope) → y < m → NameEqual (scope T p) x Ψ y → x < m
   equal_low_back p x y Ψ h e = equal_low Ψ p y x h (name_symmetric (scope T p) Ψ x y e)

@@ -1,4 +1,5 @@
 pub mod BindersHidden
+pub mod BindersTied
 pub mod CausesDecide
 pub mod ClashesFound
 pub mod CyclesFound
@@ -10,13 +11,16 @@ pub mod HoleNames
 pub mod HolesJoined
 pub mod KindsThatDiffer
 pub mod LeafNumbers
+pub mod MarkedNames
 pub mod MarkedPlaces
 pub mod MarkedRoots
 pub mod MisnamedFound
 pub mod MissedGoals
 pub mod NameNumbers
 pub mod NamesClassed
+pub mod NamesEntered
 pub mod NamesMore
+pub mod NamesTold
 pub mod NonHolesFound
 pub mod OwnParts
 pub mod PlaceParts

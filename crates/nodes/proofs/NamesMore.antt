@@ -34,30 +34,39 @@ module _ {L : Type 0} (T : Table L) (m : ℕ) (told : List Pair) {Done : Node �
     }
 
 -- what stands in two lists together
-in_either : {A : Type 0} (x : A) (xs ys : List A) → In x (xs ++ ys) → In x xs ⊎ In x ys
+pub in_either : {A : Type 0} (x : A) (xs ys : List A) → In x (xs ++ ys) → In x xs ⊎ In x ys
 in_either x [] ys i = inr i
 in_either x (z ∷ xs) ys (inl e) = inl (inl e)
 in_either x (z ∷ xs) ys (inr i) = elim (in_either x xs ys i) [ inl j ↦ inl (inr j) | inr j ↦ inr j ]
 
-in_left : {A : Type 0} (x : A) (xs ys : List A) → In x xs → In x (xs ++ ys)
+pub in_left : {A : Type 0} (x : A) (xs ys : List A) → In x xs → In x (xs ++ ys)
 in_left x [] ys i = absurd i
 in_left x (z ∷ xs) ys (inl e) = inl e
 in_left x (z ∷ xs) ys (inr i) = inr (in_left x xs ys i)
 
-in_right : {A : Type 0} (x : A) (xs ys : List A) → In x ys → In x (xs ++ ys)
+pub in_right : {A : Type 0} (x : A) (xs ys : List A) → In x ys → In x (xs ++ ys)
 in_right x [] ys i = i
 in_right x (z ∷ xs) ys i = inr (in_right x xs ys i)
 
 module _ {L : Type 0} (T : Table L) (m : ℕ) (told : List Pair) {Done : Node → Node → Type 0} where
-  -- a list of pairs of numbers joined: what was done is done, and these are
-  pub names_many : {old new : List ℕ} (pairs : List (ℕ × ℕ)) → NamesSome T m told Done old → length new ≡ length old → ((u v : ℕ) → In (u, v) pairs → NumbersJoined T m told u v) → PairsMore pairs old new → NamesSome T m told (λ a b. Done a b ⊎ In (node_number m a, node_number m b) pairs) new
-  names_many pairs some long joined more = record {
+  -- a list of pairs of numbers joined: what was done is done, and what they join
+  pub names_over : {old new : List ℕ} (pairs : List (ℕ × ℕ)) → NamesSome T m told Done old → length new ≡ length old → ((u v : ℕ) → In (u, v) pairs → NumbersJoined T m told u v) → PairsMore pairs old new → NamesSome T m told (λ a b. Done a b ⊎ forest.Joined (name_parts T m) pairs (node_number m a) (node_number m b)) new
+  names_over pairs some long joined more = record {
     long = long ∙ some.long;
     pairs = pairs ++ some.pairs;
     exact = more (name_parts T m) some.pairs some.exact;
     held = λ u v i. elim (in_either (u, v) pairs some.pairs i) [ inl j ↦ joined u v j | inr j ↦ some.held u v j ];
     done = λ a b h. elim h [
       | inl d ↦ closure_over (λ i j k. in_right (i, j) pairs some.pairs k) (some.done a b d)
-      | inr i ↦ Closure.held (in_left (node_number m a, node_number m b) pairs some.pairs i)
+      | inr d ↦ closure_over (λ i j k. in_left (i, j) pairs some.pairs k) d
     ];
   }
+
+  -- less is done too
+  pub names_to : {Less : Node → Node → Type 0} {rows : List ℕ} → ((a b : Node) → Less a b → Done a b) → NamesSome T m told Done rows → NamesSome T m told Less rows
+  names_to to some = record { long = some.long; pairs = some.pairs; exact = some.exact; held = some.held; done = λ a b h. some.done a b (to a b h) }
+
+module _ {L : Type 0} (T : Table L) (m : ℕ) (told : List Pair) {Done : Node → Node → Type 0} where
+  -- so the pairs themselves are done
+  pub names_many : {old new : List ℕ} (pairs : List (ℕ × ℕ)) → NamesSome T m told Done old → length new ≡ length old → ((u v : ℕ) → In (u, v) pairs → NumbersJoined T m told u v) → PairsMore pairs old new → NamesSome T m told (λ a b. Done a b ⊎ In (node_number m a, node_number m b) pairs) new
+  names_many pairs some long joined more = names_to T m told (λ a b h. elim h [ inl d ↦ inl d | inr i ↦ inr (Closure.held i) ]) (names_over T m told pairs some long joined more)

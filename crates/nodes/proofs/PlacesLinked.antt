@@ -12,18 +12,18 @@ use Rattle.nodes.specs.PlaceClasses.{PlacesJoined, RootsLink, place_parts}
 use Rattle.nodes.proofs.PlaceParts.{part_found, part_is_found}
 
 -- what stands in a list with one more at its end
-in_both : {A : Type 0} (x y : A) (xs : List A) → In x (xs ++ (y ∷ [])) → In x xs ⊎ (x ≡ y)
+pub in_both : {A : Type 0} (x y : A) (xs : List A) → In x (xs ++ (y ∷ [])) → In x xs ⊎ (x ≡ y)
 in_both x y [] (inl e) = inr e
 in_both x y [] (inr i) = absurd i
 in_both x y (z ∷ zs) (inl e) = inl (inl e)
 in_both x y (z ∷ zs) (inr i) = elim (in_both x y zs i) [ inl j ↦ inl (inr j) | inr e ↦ inr e ]
 
-in_first : {A : Type 0} (x y : A) (xs : List A) → In x xs → In x (xs ++ (y ∷ []))
+pub in_first : {A : Type 0} (x y : A) (xs : List A) → In x xs → In x (xs ++ (y ∷ []))
 in_first x y [] i = absurd i
 in_first x y (z ∷ zs) (inl e) = inl e
 in_first x y (z ∷ zs) (inr i) = inr (in_first x y zs i)
 
-in_last : {A : Type 0} (y : A) (xs : List A) → In y (xs ++ (y ∷ []))
+pub in_last : {A : Type 0} (y : A) (xs : List A) → In y (xs ++ (y ∷ []))
 in_last y [] = inl refl
 in_last y (z ∷ zs) = inr (in_last y zs)
 
@@ -69,7 +69,7 @@ module _ {L : Type 0} (T : Table L) where
   pub joined_more : (pairs : List (ℕ × ℕ)) (w : ℕ × ℕ) → {p q : ℕ} → Joined (place_parts T) pairs p q → Joined (place_parts T) (w ∷ pairs) p q
   joined_more pairs w = closure_over (λ u v i. inr i)
 
-  linked_more : (told : List Pair) (w : Pair) → {p q : ℕ} → Linked T told p q → Linked T (told ++ (w ∷ [])) p q
+  pub linked_more : (told : List Pair) (w : Pair) → {p q : ℕ} → Linked T told p q → Linked T (told ++ (w ∷ [])) p q
   linked_more told w Linked.itself = Linked.itself
   linked_more told w (Linked.back l) = Linked.back (linked_more told w l)
   linked_more told w (Linked.chain l k) = Linked.chain (linked_more told w l) (linked_more told w k)

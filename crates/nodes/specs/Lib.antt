@@ -1,5 +1,8 @@
+pub mod Binders
+pub mod BoundNumbers
 pub mod Clashes
 pub mod Cycles
+pub mod Entering
 pub mod HoldersWritten
 pub mod MisnamedRoots
 pub mod Misnaming
@@ -12,3 +15,4 @@ pub mod PlaceClasses
 pub mod Records
 pub mod Searches
 pub mod Starting
+pub mod ToldNames

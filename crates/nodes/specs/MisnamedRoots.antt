@@ -2,6 +2,7 @@
 use Rattle.std.specs.Prelude.{◌≡◌, ℕ, suc, ◌+◌, ◌*◌, ◌<◌, ◌≢◌, List, Some, None, Option}
 use Rattle.recipe.specs.Tables.{Form}
 use Rattle.forest.specs.Rows.{root}
+use Rattle.nodes.specs.Opposed.{marked_for}
 use Rattle.nodes.specs.Records.{written_form}
 
 -- the name of a name place, or none for another form
@@ -46,3 +47,9 @@ pub record MisnamedRoot (names_rows rows ws : List ℕ) (m p : ℕ) : Type 0 whe
   pub name : ℕ
   pub named : name_of_form (written_form ws p) ≡ Some name
   pub spoiled : SpoiledRoot names_rows rows ws m p name
+
+-- the marks of the n lowest places: for each root a name place that has it, with whose name the names of all name places with that root have one root, or none where no place with that root is a name place
+pub record MarkedNames (names_rows rows ws : List ℕ) (m n : ℕ) (marks : List ℕ) : Type 0 where
+  pub solid : (r f : ℕ) → marked_for marks r ≡ Some f → (f < n) × (root rows f ≡ r) × ((y : ℕ) × (name_of_form (written_form ws f) ≡ Some y))
+  pub others : (k : ℕ) → k < n → marked_for marks (root rows k) ≡ None → name_of_form (written_form ws k) ≡ None
+  pub agree : (k f x y : ℕ) → k < n → marked_for marks (root rows k) ≡ Some f → name_of_form (written_form ws k) ≡ Some x → name_of_form (written_form ws f) ≡ Some y → name_root names_rows m k x ≡ name_root names_rows m f y

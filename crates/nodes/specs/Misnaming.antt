@@ -5,7 +5,7 @@ use Rattle.recipe.specs.Fillings.{Pair}
 use Rattle.recipe.specs.Tables.{Table}
 use Rattle.closure.specs.Causes.{Misnamed}
 
--- no name place is spoiled by a lower one or by itself, or this is the lowest that is
+-- no place is misnamed, or this is the lowest that is
 abbrev pub FindsMisnamed : {L : Type 0} → Table L → ℕ → List Pair → Option ℕ → Type 0
 FindsMisnamed T m told r =
     MatchOption r ((p : ℕ) → Misnamed T m told p → ⊥) (Least (Misnamed T m told))

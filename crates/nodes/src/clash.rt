@@ -67,7 +67,7 @@ fn search_clash(rows: &[u32], words: &[u32], size: usize) -> Option<(usize, usiz
 }
 
 // The place that is marked for a root, or none.
-fn marked_for(marks: &[u32], root: usize) -> Option<usize>
+pub(crate) fn marked_for(marks: &[u32], root: usize) -> Option<usize>
     requires { root < length marks.now }
     ensures { result ≡ marked_for marks.now root }
 {

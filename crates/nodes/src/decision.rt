@@ -5,8 +5,7 @@ ghost use Rattle.recipe.specs.Fillings.{Pair};
 ghost use Rattle.recipe.specs.Tables.{Form};
 ghost use Rattle.recipe.specs.Tells.{Decided};
 ghost use Rattle.closure.specs.Decision.{HolesBelow, WellFormed};
-ghost use Rattle.nodes.specs.NameClasses.{RootsJoin};
-ghost use Rattle.nodes.specs.PlaceClasses.{PlacesJoined, RootsLink};
+ghost use Rattle.nodes.specs.Entering.{Entered};
 ghost use Rattle.nodes.specs.Records.{HasRows, written};
 
 use crate::clash::find_clash;
@@ -34,7 +33,7 @@ pub fn decide(
     requires named { (p x : ℕ) → (written size words.now).form p ≡ Form.name x → x < names }
     requires holes { HolesBelow (written size words.now) }
     requires room { size ≤ length marks.old }
-    ensures { (told : List Pair) → WellFormed (written size words.now) names told → PlacesJoined (written size words.now) told rows.now → RootsLink (written size words.now) told rows.now → RootsJoin (written size words.now) names told names_rows.now → Decided nat_eq (written size words.now) told result }
+    ensures { (told : List Pair) → WellFormed (written size words.now) names told → Entered (written size words.now) names told rows.now names_rows.now → Decided nat_eq (written size words.now) told result }
 {
     if let Some((place, partner)) = find_clash(rows, words, size, marks) {
         return Err(Refusal::Clash { place, partner });
@@ -42,7 +41,7 @@ pub fn decide(
     if let Some(place) = find_cycle(rows, size, marks) {
         return Err(Refusal::Cyclic { place });
     }
-    match find_misnamed(names_rows, rows, words, size, names) {
+    match find_misnamed(names_rows, rows, words, size, names, marks) {
         Some(place) => Err(Refusal::NamesDisagree { place }),
         None => Ok(()),
     }
