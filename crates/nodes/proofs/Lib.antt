@@ -20,6 +20,7 @@ pub mod NameNumbers
 pub mod NamesClassed
 pub mod NamesEntered
 pub mod NamesMore
+pub mod NamesPartnered
 pub mod NamesTold
 pub mod NonHolesFound
 pub mod OwnParts

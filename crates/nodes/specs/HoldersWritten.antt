@@ -20,7 +20,7 @@ HoldersWritten n ws = (p : ℕ) → p < n → written_holder ws p ≡ option_map
 abbrev pub SameForms : List ℕ → List ℕ → Type 0
 SameForms old new = (p : ℕ) → written_form new p ≡ written_form old p
 
--- the parts of a place have rows (only private functions cite it, and the two below)
+-- the parts of a place have rows (only private functions cite this and the next two)
 abbrev pub PartsInside : List ℕ → ℕ → Type 0
 PartsInside ws p = (x : Part ℕ) → In x (parts (written_form ws p)) → HasRow ws x.at
 

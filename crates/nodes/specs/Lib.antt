@@ -4,6 +4,7 @@ pub mod Clashes
 pub mod Cycles
 pub mod Entering
 pub mod HoldersWritten
+pub mod JoinedNames
 pub mod MisnamedRoots
 pub mod Misnaming
 pub mod NameClasses

@@ -12,10 +12,6 @@ with_numbers number (Form.hole h) = Form.hole h
 with_numbers number (Form.bind a c) = Form.bind a c
 with_numbers number (Form.call c d) = Form.call c d
 
--- the table with a number for each leaf
-abbrev pub numbered : {L : Type 0} → (L → Option ℕ) → Table L → Table ℕ
-numbered number T = record { size = T.size; form = λ p. with_numbers number (T.form p) }
-
 -- the form that the words of a place write
 abbrev pub written_form : List ℕ → ℕ → Form ℕ
 written_form ws p = form_by (Some (slice_index ws (8 * p + 1))) (slice_index ws (8 * p + 1)) (slice_index ws (8 * p + 2)) (slice_index ws (8 * p))

@@ -32,7 +32,7 @@ pub record SaidMore {L : Type 0} (T : Table L) (m p q : ℕ) (Done : Node → No
 abbrev pub TellsNames : {L : Type 0} → Table L → ℕ → ℕ → ℕ → List ℕ → List ℕ → Type 0
 TellsNames T m p q = SaidMore T m p q (HeldByPair T m p q)
 
--- what the pair says of the names below n of its first place (only private functions cite it, and the one below)
+-- what the pair says of the names below n of its first place (only private functions cite this and the next)
 pub data SaidFirst {L : Type 0} (T : Table L) (p q n : ℕ) : Node → Node → Type 0 where
   equal : {x y : ℕ} → x < n → NameEqual (scope T p) x (scope T q) y → SaidFirst T p q n (Node.name p x) (Node.name q y)
   none : {x : ℕ} → x < n → ((y : ℕ) → NameEqual (scope T p) x (scope T q) y → ⊥) → SaidFirst T p q n (Node.name p x) Node.nowhere

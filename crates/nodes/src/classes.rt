@@ -1,5 +1,5 @@
 // What the class of a place has.
-ghost use Rattle.std.specs.Prelude.{◌≡◌, ℕ, ◌*◌, ◌<◌, ◌≤◌, length};
+ghost use Rattle.std.specs.Prelude.{◌≡◌, ◌*◌, ◌<◌, ◌≤◌, length};
 ghost use Rattle.forest.specs.Rows.{Rows};
 ghost use Rattle.nodes.specs.NonHoles.{FindsNonHole, NonHoleMate};
 ghost use Rattle.nodes.specs.Searches.{LowestBelow};

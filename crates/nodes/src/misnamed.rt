@@ -29,7 +29,7 @@ fn name_of(words: &[u32], p: usize) -> Option<usize>
 }
 
 // The root of the name `x` at the place `p`.
-fn root_of_name(names_rows: &[u32], names: usize, p: usize, x: usize) -> usize
+pub(crate) fn root_of_name(names_rows: &[u32], names: usize, p: usize, x: usize) -> usize
     requires low { p < 512 }
     requires few { names ≤ 64 }
     requires forest { Rows names_rows.now }

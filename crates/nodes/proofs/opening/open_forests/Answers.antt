@@ -1,6 +1,6 @@
 use Rattle.std.proofs.Common.{[]}
 use Rattle.nodes.proofs.NamesEntered.{names_opened, some_exact}
-use Rattle.nodes.proofs.entering.open_forests.Goals as goal
+use Rattle.nodes.proofs.opening.open_forests.Goals as goal
 
 pub tie_binders-requires-clause-exact : goal.tie_binders-requires-clause-exact
 tie_binders-requires-clause-exact c = some_exact _ c.args.names [] (c.open_names.ensures [])
