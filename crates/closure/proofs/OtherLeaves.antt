@@ -24,7 +24,7 @@ use Rattle.closure.proofs.SameParts.{SameParts, same_scope, part_over, well_form
 use Rattle.closure.proofs.WalksExact.{walks_exact}
 
 -- the places of a tell that is not refused without matching are places of the table, at one depth
-no_fault : {L : Type 0} (T : Table L) (pairs : List Pair) (p q : ℕ) → tell_fault T pairs p q ≡ None → (p < T.size) × (q < T.size) × (depth T p ≡ depth T q)
+pub no_fault : {L : Type 0} (T : Table L) (pairs : List Pair) (p q : ℕ) → tell_fault T pairs p q ≡ None → (p < T.size) × (q < T.size) × (depth T p ≡ depth T q)
 no_fault T pairs p q none = grind (arith, nat_tests)
 
 last_or_in : {A : Type 0} (xs : List A) (x y : A) → In x (xs ++ (y ∷ [])) → (x ≡ y) ⊎ In x xs
@@ -32,15 +32,15 @@ last_or_in [] x y i = inl (only i)
 last_or_in (z ∷ xs) x y (inl e) = inr (inl e)
 last_or_in (z ∷ xs) x y (inr i) = elim (last_or_in xs x y i) [ inl e ↦ inl e | inr j ↦ inr (inr j) ]
 
--- so pairs can be matched with one told pair more
-ready_more : {L : Type 0} (T : Table L) {m : ℕ} (pairs : List Pair) (p q : ℕ) → WellFormed T m pairs → tell_fault T pairs p q ≡ None → WellFormed T m (pairs ++ ((p, q) ∷ []))
-ready_more T pairs p q ready none =
+-- with a pair of places of the table at one depth more, pairs can be matched still
+pub ready_more : {L : Type 0} (T : Table L) {m : ℕ} (pairs : List Pair) (p q : ℕ) → WellFormed T m pairs → (p < T.size) × (q < T.size) × (depth T p ≡ depth T q) → WellFormed T m (pairs ++ ((p, q) ∷ []))
+ready_more T pairs p q ready places =
     record {
       ordered = ready.ordered;
       past = ready.past;
       names = ready.names;
       binders = ready.binders;
-      told = λ u v i. elim (last_or_in pairs (u, v) (p, q) i) [ inl e ↦ rw (ap (λ z. z.0) e, ap (λ z. z.1) e) (no_fault T pairs p q none) | inr j ↦ ready.told u v j ];
+      told = λ u v i. elim (last_or_in pairs (u, v) (p, q) i) [ inl e ↦ rw (ap (λ z. z.0) e, ap (λ z. z.1) e) places | inr j ↦ ready.told u v j ];
     }
 
 -- a finding is right only where the look is not refused
@@ -55,7 +55,7 @@ leaf_before {f = f} p q e = solid_as (as_hole p q f) (rw e (λ n. omega arith)) 
 
 -- two forms that differ in their leaves at most
 module _ {L M : Type 0} where
-  alike_back : {f : Form L} {g : Form M} → SameForm f g → SameForm g f
+  pub alike_back : {f : Form L} {g : Form M} → SameForm f g → SameForm g f
   alike_back SameForm.nils = SameForm.nils
   alike_back SameForm.leaves = SameForm.leaves
   alike_back SameForm.names = SameForm.names
@@ -79,7 +79,7 @@ module _ {L M : Type 0} where
   alike_name SameForm.names e = cc
   alike_name a e = cc
 
-  alike_hole : {f : Form L} {g : Form M} {h : ℕ} → SameForm f g → f ≡ Form.hole h → g ≡ Form.hole h
+  pub alike_hole : {f : Form L} {g : Form M} {h : ℕ} → SameForm f g → f ≡ Form.hole h → g ≡ Form.hole h
   alike_hole SameForm.holes e = cc
   alike_hole a e = cc
 
@@ -129,10 +129,10 @@ module _ {L M : Type 0} {same : L → L → Bool} {other : M → M → Bool} {T 
   name_over : {p x : ℕ} → T.form p ≡ Form.name x → U.form p ≡ Form.name x
   name_over {p = p} = alike_name (alike.forms p)
 
-  ready_over : {m : ℕ} {pairs : List Pair} → WellFormed T m pairs → WellFormed U m pairs
+  pub ready_over : {m : ℕ} {pairs : List Pair} → WellFormed T m pairs → WellFormed U m pairs
   ready_over = well_formed_over same_parts (λ p. alike_nil (alike.forms p)) (λ p x. alike_name (alike_back (alike.forms p)))
 
-  same_fault : (pairs : List Pair) (p q : ℕ) → tell_fault T pairs p q ≡ tell_fault U pairs p q
+  pub same_fault : (pairs : List Pair) (p q : ℕ) → tell_fault T pairs p q ≡ tell_fault U pairs p q
   same_fault pairs p q = rw (same_scope same_parts p, same_scope same_parts q, alike.size)
 
   clash_over : {pairs : List Pair} (p q : ℕ) → Clash same T pairs p q → Clash other U pairs p q
@@ -209,7 +209,7 @@ module _ {L M : Type 0} {same : L → L → Bool} {other : M → M → Bool} (la
   tells_over : {pairs : List Pair} {p q : ℕ} {r : Result (Unit {0}) Refusal} → WellFormed T m pairs → Tells same T pairs p q r → Tells other U pairs p q r
   tells_over {pairs = pairs} {p = p} {q = q} ready (Tells.refused e) = Tells.refused (sym (same_fault alike pairs p q) ∙ e)
   tells_over {pairs = pairs} {p = p} {q = q} ready (Tells.decided none d) =
-      Tells.decided (sym (same_fault alike pairs p q) ∙ none) (decided_over (ready_more T pairs p q ready none) d)
+      Tells.decided (sym (same_fault alike pairs p q) ∙ none) (decided_over (ready_more T pairs p q ready (no_fault T pairs p q none)) d)
 
 pub leaves_do_not_matter_lem : {L M : Type 0} (same : L → L → Bool) (other : M → M → Bool) → Sameness same → Sameness other → LeavesDoNotMatter same other
 leaves_do_not_matter_lem same other laws others T U ls ks m pairs ready alike =

@@ -11,7 +11,7 @@ use Rattle.recipe.proofs.Shapes.{differ_itself}
 use Rattle.nodes.specs.Opposed.{Opposed}
 use Rattle.nodes.specs.PlaceClasses.{PlacesJoined, RootsLink}
 use Rattle.nodes.specs.Records.{written, written_form}
-use Rattle.nodes.proofs.KindsThatDiffer.{numbers_same}
+use Rattle.nodes.proofs.LeafNumbers.{nat_sameness}
 use Rattle.nodes.proofs.PlacesInside.{linked_inside}
 
 module _ (n : ℕ) (ws : List ℕ) where
@@ -27,7 +27,7 @@ module _ (n : ℕ) (ws : List ℕ) where
     -- clashes are places of the table with one root that differ
     opposed : (p q : ℕ) → Clash nat_eq (written n ws) told p q → (p < n) × (q < n) × Opposed rows ws p q
     opposed p q clash = elim (linked_inside (written n ws) told rows form_past joined clash.linked) [
-      | inl e ↦ absurd (differ_itself numbers_same ((written n ws).form q) (rw e at clash.differ))
+      | inl e ↦ absurd (differ_itself nat_sameness ((written n ws).form q) (rw e at clash.differ))
       | inr (h, k) ↦ (h, k, record { one_root = (roots p q h k).1 clash.linked; differ = rw (form_there p h, form_there q k) at clash.differ })
     ]
 

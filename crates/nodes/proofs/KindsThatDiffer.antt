@@ -1,22 +1,13 @@
 -- When the words of two places write forms that differ. Assumes nothing.
 use Rattle.std.proofs.Common.{◌≡◌, ℕ, zero, suc, ◌+◌, ◌*◌, ◌≢◌, Bool, true, false, not, ◌↔◌, List, get_or, nat_eq, Some, refl, sym, ap, ◌∙◌, subst, arith, rules}
-use Rattle.std.proofs.lemmas.Bool.{both_ways, eq-eqb, eqb-true}
+use Rattle.std.proofs.lemmas.Bool.{both_ways}
 use denote.Enum.Bare.{sameb, same_true}
 use Rattle.recipe.specs.declared.places.Kind.{Kind}
 use Rattle.recipe.specs.contracts.places.Kind.{the_type}
 use Rattle.recipe.specs.Kinds.{code_of}
 use Rattle.recipe.specs.Links.{Differ, kind_of}
-use Rattle.recipe.specs.Sameness.{Sameness}
 use Rattle.recipe.specs.Tables.{Form, form_by}
 use Rattle.nodes.specs.Records.{written_form}
-
--- equality of numbers is a sameness
-pub numbers_same : Sameness nat_eq
-numbers_same = record {
-  reflexive = λ x. eq-eqb x x refl;
-  symmetric = λ x y e. eq-eqb y x (sym (eqb-true x y e));
-  transitive = λ x y z e d. eq-eqb x z (eqb-true x y e ∙ eqb-true y z d);
-}
 
 -- the kind of a number
 kind_by : ℕ → Kind

@@ -9,7 +9,7 @@ use Rattle.closure.proofs.Differing.{differ_third}
 use Rattle.forest.specs.Rows.{node_or_none, root}
 use Rattle.nodes.specs.Opposed.{Marked, Opposed, marked_for}
 use Rattle.nodes.specs.Records.{written_form}
-use Rattle.nodes.proofs.KindsThatDiffer.{numbers_same}
+use Rattle.nodes.proofs.LeafNumbers.{nat_sameness}
 
 -- one place, or none
 some_or_none : (o : Option ℕ) → (o ≡ None) ⊎ ((f : ℕ) × (o ≡ Some f))
@@ -59,7 +59,7 @@ module _ (rows ws : List ℕ) where
     ];
     agree = λ k f h e d. elim (cases_eq (root rows k) (root rows n)) [
       | inl one ↦ elim (cases_eq k n) [
-        | inl it ↦ let two : f ≡ n = here (root rows k) f one e in differ_itself numbers_same (written_form ws n) (rw (two, it) at d)
+        | inl it ↦ let two : f ≡ n = here (root rows k) f one e in differ_itself nat_sameness (written_form ws n) (rw (two, it) at d)
         | inr less ↦ (differ_no_holes d).1 (m.holes k (omega arith) (rw one is))
       ]
       | inr other ↦ m.agree k f (elsewhere k h other) (sym (there (root rows k) other) ∙ e) d
@@ -83,7 +83,7 @@ module _ (rows ws : List ℕ) where
   marked_all n p q marks m h k o =
       elim (some_or_none (marked_for marks (root rows p))) [
         | inl none ↦ (differ_no_holes o.differ).0 (m.holes p h none)
-        | inr (f, is) ↦ elim (differ_third numbers_same (written_form ws f) (m.solid (root rows p) f is).2 o.differ) [
+        | inr (f, is) ↦ elim (differ_third nat_sameness (written_form ws f) (m.solid (root rows p) f is).2 o.differ) [
           | inl d ↦ m.agree p f h is d
           | inr d ↦ m.agree q f k (rw (← o.one_root) is) d
         ]

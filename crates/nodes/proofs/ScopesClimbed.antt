@@ -1,14 +1,15 @@
 -- The scope of a place, read by climbing from holder to holder in the words. Assumes nothing.
-use Rattle.std.proofs.Common.{◌≡◌, ℕ, suc, ◌+◌, ◌<◌, ◌≤◌, ◌≢◌, List, [], ◌∷◌, length, nat_eq, Some, None, Option, refl, sym, ap, ◌∙◌, inl, inr, arith, eq-eqb}
-use Rattle.std.proofs.lemmas.Bool.{cond-true, cond-false, ne_eqb}
+use Rattle.std.proofs.Common.{◌≡◌, ℕ, suc, ◌+◌, ◌<◌, ◌≤◌, ◌≢◌, List, [], ◌∷◌, length, nat_eq, true, false, Some, None, Option, refl, sym, ap, ◌∙◌, inl, inr, arith, eq-eqb}
+use Rattle.std.proofs.lemmas.Bool.{cond-true, cond-false, ne_eqb, true≢false}
 use Rattle.std.proofs.lemmas.Option.{none-some}
 use Rattle.std.specs.List.{slice_get}
-use Rattle.std.specs.Option.{option_map}
+use Rattle.std.specs.Option.{is_some, option_map}
 use Rattle.recipe.specs.Common.{In}
 use Rattle.recipe.specs.Numbering.{number_of}
 use Rattle.recipe.specs.Recipes.{Part}
 use Rattle.recipe.specs.Scopes.{Scope, extended, inner}
-use Rattle.recipe.specs.Tables.{Form, Holder, Table, holder, parts, scope, scope_under}
+use Rattle.recipe.specs.Tables.{Form, Holder, Table, depth, holder, parts, scope, scope_under}
+use Rattle.recipe.proofs.Firsts.{not_some}
 use Rattle.recipe.proofs.Holders.{holder_tells, scope_step}
 use Rattle.nodes.specs.HoldersWritten.{HoldersWritten, written_holder}
 use Rattle.nodes.specs.NameSteps.{binder_of_form}
@@ -91,6 +92,16 @@ pub record Counted (T : Table ℕ) (p x below passed : ℕ) : Type 0 where
 pub record Reached (T : Table ℕ) (p k below left : ℕ) : Type 0 where
   pub same : slice_get (scope T p) k ≡ slice_get (scope T below) left
 
+-- a scope is one longer below a binder
+longer_by : (o : Option ℕ) (Φ : Scope) → is_some o ≡ true → length (extended o Φ) ≡ suc (length Φ)
+longer_by None Φ e = absurd (true≢false (sym e))
+longer_by (Some a) Φ e = refl
+
+-- so many binders stand between p and the place `below` that is reached
+pub record Passed (T : Table ℕ) (p below count : ℕ) : Type 0 where
+  pub few : depth T p ≤ 64
+  pub same : depth T p ≡ count + depth T below
+
 module _ (n : ℕ) (ws : List ℕ) where
   module _ (holders : HoldersWritten n ws) (p below h : ℕ) (low : below < n) (held : written_holder ws below ≡ Some h) where
     -- the scope of the place, if its holder is a binder, and if it is none
@@ -121,6 +132,15 @@ module _ (n : ℕ) (ws : List ℕ) where
         let few = at.few in
         record { few = omega arith; same = at.same ∙ ap (λ Φ. plus passed (inner Φ x)) (free_scope e) }
 
+    pub passed_past : (count : ℕ) → is_some (binder_of_form (written_form ws h)) ≡ true → Passed (written n ws) p below count → Passed (written n ws) p h (count + 1)
+    passed_past count e at =
+        let long : depth (written n ws) below ≡ suc (depth (written n ws) h) = ap length (held_scope n ws holders below h low held).1 ∙ longer_by _ (scope (written n ws) h) e in
+        let same = at.same in
+        record { few = at.few; same = omega arith }
+
+    pub passed_by : (count : ℕ) → is_some (binder_of_form (written_form ws h)) ≡ false → Passed (written n ws) p below count → Passed (written n ws) p h count
+    passed_by count e at = record { few = at.few; same = at.same ∙ ap (λ Φ. count + length Φ) (free_scope (not_some _ e)) }
+
     pub reached_found : (k left a : ℕ) → binder_of_form (written_form ws h) ≡ Some a → left ≡ 0 → Reached (written n ws) p k below left → Some a ≡ slice_get (scope (written n ws) p) k
     reached_found k left a e is at = sym (at.same ∙ ap (slice_get (scope (written n ws) below)) is ∙ ap (λ Φ. slice_get Φ 0) (bound_scope a e))
 
@@ -137,6 +157,12 @@ module _ (n : ℕ) (ws : List ℕ) where
     pub counted_none : (x passed : ℕ) → Counted (written n ws) p x below passed → None ≡ inner (scope (written n ws) p) x
     counted_none x passed at =
         sym (at.same ∙ ap (plus passed) (ap (λ Φ. inner Φ x) (top_scope n ws holders below low top) ∙ inner_nothing x))
+
+    pub passed_all : (count : ℕ) → Passed (written n ws) p below count → count ≡ depth (written n ws) p
+    passed_all count at =
+        let top : depth (written n ws) below ≡ 0 = ap length (top_scope n ws holders below low top) in
+        let same = at.same in
+        omega arith
 
     pub reached_none : (k left : ℕ) → Reached (written n ws) p k below left → None ≡ slice_get (scope (written n ws) p) k
     reached_none k left at = sym (at.same ∙ ap (λ Φ. slice_get Φ left) (top_scope n ws holders below low top))

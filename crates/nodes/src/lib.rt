@@ -25,6 +25,6 @@ pub use opening::open_forests;
 pub use partners::joined_name;
 pub use places::{open_places, tell_places};
 pub use records::write_records;
-pub use scopes::{equal_name, write_holders};
-pub use telling::tell_pair;
+pub use scopes::{depth_of, equal_name, write_holders};
+pub use telling::{enter_pair, tell_pair};
 pub use told::tell_names;

@@ -2,7 +2,7 @@
 ghost use Rattle.std.specs.Prelude.{◌≡◌, ℕ, ◌+◌, ◌*◌, ◌<◌, ◌≤◌, length, None, MatchOption};
 ghost use Rattle.std.specs.List.{slice_get};
 ghost use Rattle.recipe.specs.Scopes.{NameEqual, inner};
-ghost use Rattle.recipe.specs.Tables.{parts, scope};
+ghost use Rattle.recipe.specs.Tables.{depth, parts, scope};
 ghost use Rattle.recipe.specs.Validity.{Ordered};
 ghost use Rattle.nodes.specs.HoldersWritten.{HolderSet, HoldersWritten, PartsHeld, PartsInside, SameForms, written_holder};
 ghost use Rattle.nodes.specs.Opposed.{HasRow};
@@ -117,6 +117,25 @@ fn binder_at(words: &[u32], size: usize, p: usize, position: usize) -> Option<us
         below = holder;
     }
     None
+}
+
+// How many binders stand above `p`, by the same climb.
+pub fn depth_of(words: &[u32], size: usize, p: usize) -> usize
+    requires rows { HasRows size words.now }
+    requires ordered { Ordered (written size words.now) }
+    requires holders { HoldersWritten size words.now }
+    requires place { p < size }
+    ensures { result ≡ depth (written size words.now) p }
+{
+    let mut below = p;
+    let mut count = 0;
+    while let Some(holder) = holder_of(words, below) {
+        if binder_of(words, holder).is_some() {
+            count += 1;
+        }
+        below = holder;
+    }
+    count
 }
 
 // The name of `q` that is equal to a name of `p`, each in its scope, if there is one.

@@ -8,7 +8,8 @@ ghost use Rattle.recipe.specs.Validity.{Ordered};
 ghost use Rattle.closure.specs.Decision.{HolesBelow, WellFormed};
 ghost use Rattle.nodes.specs.Entering.{DecidedByPlaces, Entered, SomeEntered};
 ghost use Rattle.nodes.specs.HoldersWritten.{HoldersWritten};
-ghost use Rattle.nodes.specs.NameSteps.{BindersFew};
+ghost use Rattle.nodes.specs.NameClasses.{NamesJoined};
+ghost use Rattle.nodes.specs.NameSteps.{BindersFew, IsExact};
 ghost use Rattle.nodes.specs.PlaceClasses.{PlacesJoined, RootsLink};
 ghost use Rattle.nodes.specs.Records.{HasRows, written};
 
@@ -36,6 +37,65 @@ fn decide_places(rows: &[u32], words: &[u32], size: usize, marks: &mut [u32]) ->
         Some(place) => Err(Refusal::Cyclic { place }),
         None => Ok(()),
     }
+}
+
+// Joins in the forest over names what a pair says of names, and the binders of the binds that are linked with it.
+fn enter_names(
+    names_rows: &mut [u32],
+    rows: &[u32],
+    words: &[u32],
+    size: usize,
+    names: usize,
+    marks: &mut [u32],
+    p: usize,
+    q: usize,
+)
+    requires few_places { size ≤ 512 }
+    requires few { names ≤ 64 }
+    requires forest { Rows rows.now }
+    requires long { length rows.now ≡ 4 * size }
+    requires names_long { length names_rows.old ≡ 4 * suc (names * size) }
+    requires rows { HasRows size words.now }
+    requires ordered { Ordered (written size words.now) }
+    requires holders { HoldersWritten size words.now }
+    requires binders { BindersFew (written size words.now) names }
+    requires room { size ≤ length marks.old }
+    requires exact { IsExact names_rows.old }
+    requires first { p < size }
+    requires second { q < size }
+    ensures { (told : List Pair) → RootsLink (written size words.now) (told ++ ((p, q) ∷ [])) rows.now → NamesJoined (written size words.now) names told names_rows.old → NamesJoined (written size words.now) names (told ++ ((p, q) ∷ [])) names_rows.new }
+{
+    tell_names(names_rows, words, size, names, p, q);
+    tie_binders(names_rows, rows, words, size, names, marks);
+}
+
+// Enters a pair that is told to be equal, in both forests. It marks roots in the lent `marks`.
+pub fn enter_pair(
+    rows: &mut [u32],
+    names_rows: &mut [u32],
+    words: &[u32],
+    size: usize,
+    names: usize,
+    marks: &mut [u32],
+    p: usize,
+    q: usize,
+)
+    requires few_places { size ≤ 512 }
+    requires few { names ≤ 64 }
+    requires long { length rows.old ≡ 4 * size }
+    requires names_long { length names_rows.old ≡ 4 * suc (names * size) }
+    requires rows { HasRows size words.now }
+    requires ordered { Ordered (written size words.now) }
+    requires holders { HoldersWritten size words.now }
+    requires binders { BindersFew (written size words.now) names }
+    requires room { size ≤ length marks.old }
+    requires entered { SomeEntered (written size words.now) names rows.old names_rows.old }
+    requires first { p < size }
+    requires second { q < size }
+    ensures { (told : List Pair) → Entered (written size words.now) names told rows.old names_rows.old → Entered (written size words.now) names (told ++ ((p, q) ∷ [])) rows.new names_rows.new }
+{
+    tell_places(rows, p, q);
+    enter_names(names_rows, rows, words, size, names, marks, p, q);
 }
 
 // Enters a pair that is told to be equal, and says what the pairs come to with it: accepted where they have a filling, and
@@ -70,8 +130,7 @@ pub fn tell_pair(
 {
     tell_places(rows, p, q);
     decide_places(rows, words, size, marks)?;
-    tell_names(names_rows, words, size, names, p, q);
-    tie_binders(names_rows, rows, words, size, names, marks);
+    enter_names(names_rows, rows, words, size, names, marks, p, q);
     match find_misnamed(names_rows, rows, words, size, names, marks) {
         Some(place) => Err(Refusal::NamesDisagree { place }),
         None => Ok(()),

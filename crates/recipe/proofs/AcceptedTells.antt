@@ -9,7 +9,7 @@ use Rattle.recipe.specs.Tables.{Table}
 use Rattle.recipe.specs.Tells.{Decided, Tells}
 
 -- first come the accepted tells of the first entries
-accepted_append : (h k : List Entry) → accepted_pairs (h ++ k) ≡ accepted_pairs h ++ accepted_pairs k
+pub accepted_append : (h k : List Entry) → accepted_pairs (h ++ k) ≡ accepted_pairs h ++ accepted_pairs k
 accepted_append [] k = refl
 accepted_append (Entry.tell p q r ∷ h) k = ap (λ ps. accepted_pair p q r ++ ps) (accepted_append h k) ∙ sym (append_assoc (accepted_pair p q r) (accepted_pairs h) (accepted_pairs k))
 accepted_append (Entry.look p path r ∷ h) k = accepted_append h k

@@ -21,7 +21,7 @@ fn above_name(place: &Place) -> usize
 }
 
 // One more than the highest number of a name, or 0 where there is none.
-fn name_count(places: &[Place]) -> usize
+pub fn name_count(places: &[Place]) -> usize
     ensures value { result ≡ name_count places.now }
     ensures bound { result ≤ 2 ^ 32 }
 {
