@@ -8,7 +8,8 @@ use Rattle.closure.specs.Names.{Node}
 use Rattle.forest.specs.Exact.{Exact}
 use Rattle.forest.specs.Rows.{IsNode, node_or_none, parent, remembered}
 use Rattle.nodes.specs.NameClasses.{InTable, name_parts, node_number}
-use Rattle.nodes.specs.NameRows.{OwnNames, OwnParts, written_name, written_names}
+use Rattle.nodes.specs.NameRows.{OwnNames, written_name, written_names}
+use Rattle.nodes.specs.Starting.{OwnParts}
 use Rattle.nodes.specs.Records.{written}
 use Rattle.nodes.proofs.FirstRows.{form_written}
 use Rattle.nodes.proofs.NameNumbers.{name_of, number_below, number_of_part, part_of_number, place_of}

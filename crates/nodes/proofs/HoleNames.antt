@@ -9,11 +9,19 @@ use Rattle.closure.specs.Closures.{Closure}
 use Rattle.closure.specs.Names.{NamesHeld, Node}
 use Rattle.forest.specs.Exact as forest
 use Rattle.nodes.specs.NameClasses.{InTable, NumbersJoined, name_parts, node_number}
-use Rattle.nodes.specs.NameSteps.{BinderBelow, BindersAndBelow, HeldAlways, HoleBelow, NamesAlways, PairsMore, same_names}
+use Rattle.nodes.specs.NameSteps.{BinderBelow, HeldAlways, NamesAlways, PairsMore, same_names}
 use Rattle.nodes.specs.Records.{written, written_form}
 use Rattle.nodes.proofs.BindersHidden.{part_bound}
 use Rattle.nodes.proofs.FirstRows.{form_written}
 use Rattle.nodes.proofs.NamesMore.{names_many, names_said}
+
+-- a name at two places of one hole, for the places below n
+pub data HoleBelow {L : Type 0} (T : Table L) (m n : ℕ) : Node → Node → Type 0 where
+  pair : {p q h x : ℕ} → p < n → q < n → T.form p ≡ Form.hole h → T.form q ≡ Form.hole h → x < m → HoleBelow T m n (Node.name p x) (Node.name q x)
+
+-- the names of all binds, and those at places below n of holes
+abbrev pub BindersAndBelow : {L : Type 0} → Table L → ℕ → ℕ → Node → Node → Type 0
+BindersAndBelow T m n a b = BinderBelow T T.size a b ⊎ HoleBelow T m n a b
 
 module _ (m p q : ℕ) where
   -- the pairs have the numbers of one name

@@ -6,8 +6,7 @@ use Rattle.closure.specs.Closures.{Closure}
 use Rattle.forest.specs.Exact.{Exact, Joined, Parts}
 use Rattle.forest.specs.Rows.{IsNode, node_or_none, parent, remembered, root}
 use Rattle.forest.proofs.Roots.{fixed_root}
-use Rattle.nodes.specs.NameRows.{OwnParts}
-use Rattle.nodes.specs.Starting.{SameBelow}
+use Rattle.nodes.specs.Starting.{OwnParts, SameBelow}
 
 -- a node that is below the written row
 pub own_below : (sub : Parts) (old new : List ℕ) (p i : ℕ) → i < p → SameBelow p old new → OwnParts sub old i → OwnParts sub new i

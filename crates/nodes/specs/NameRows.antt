@@ -1,20 +1,15 @@
 -- The rows that a forest over names starts with. Only private functions cite it. Assumes nothing.
-use Rattle.std.specs.Prelude.{◌≡◌, ℕ, zero, suc, ◌/◌, ◌%◌, ◌<◌, List, Some, Option}
+use Rattle.std.specs.Prelude.{ℕ, zero, suc, ◌/◌, ◌%◌, ◌<◌, List, Some, Option}
 use Rattle.recipe.specs.Labels.{part_at}
 use Rattle.recipe.specs.Tables.{parts}
 use Rattle.forest.specs.Exact.{Parts}
-use Rattle.forest.specs.Rows.{parent, remembered}
 use Rattle.nodes.specs.NameClasses.{name_at}
 use Rattle.nodes.specs.Records.{written_form}
+use Rattle.nodes.specs.Starting.{OwnParts}
 
 -- the part at a side of the name x at the place p that the words write, with m names for each place
 abbrev pub written_name : List ℕ → ℕ → ℕ → ℕ → ℕ → Option ℕ
 written_name ws m p x side = name_at m x (part_at side (parts (written_form ws p)))
-
--- the node is its own parent, and remembers its own parts
-pub record OwnParts (sub : Parts) (rows : List ℕ) (i : ℕ) : Type 0 where
-  pub own : parent rows i ≡ i
-  pub parts : (side : ℕ) → side < 3 → remembered rows i side ≡ sub i side
 
 -- the parts of nodes, as the words write them
 abbrev pub written_names : List ℕ → ℕ → Parts

@@ -1,5 +1,5 @@
 -- What a forest over names has joined of the binders and holes of a table. Assumes nothing. (docs/RULES.md, "Forests over names")
-use Rattle.std.specs.Prelude.{◌≡◌, ℕ, zero, suc, ◌+◌, ◌*◌, ◌<◌, ◌⊎◌, List, [], ◌∷◌, ◌++◌, Some, None, Option}
+use Rattle.std.specs.Prelude.{◌≡◌, ℕ, zero, suc, ◌+◌, ◌*◌, ◌<◌, List, [], ◌∷◌, ◌++◌, Some, None, Option}
 use Rattle.recipe.specs.Common.{In}
 use Rattle.recipe.specs.Fillings.{Pair}
 use Rattle.recipe.specs.Recipes.{Part}
@@ -33,14 +33,6 @@ binder_of_form (Form.call c d) = None
 -- the name of a bind at its place, and nowhere, for the places below n
 pub data BinderBelow {L : Type 0} (T : Table L) (n : ℕ) : Node → Node → Type 0 where
   own : {p a : ℕ} → p < n → binder_of_form (T.form p) ≡ Some a → BinderBelow T n (Node.name p a) Node.nowhere
-
--- a name at two places of one hole, for the places below n
-pub data HoleBelow {L : Type 0} (T : Table L) (m n : ℕ) : Node → Node → Type 0 where
-  pair : {p q h x : ℕ} → p < n → q < n → T.form p ≡ Form.hole h → T.form q ≡ Form.hole h → x < m → HoleBelow T m n (Node.name p x) (Node.name q x)
-
--- the names of all binds, and those at places below n of holes
-abbrev pub BindersAndBelow : {L : Type 0} → Table L → ℕ → ℕ → Node → Node → Type 0
-BindersAndBelow T m n a b = BinderBelow T T.size a b ⊎ HoleBelow T m n a b
 
 -- the pairs of the numbers of the names below k, of m, at two places
 abbrev pub same_names : ℕ → ℕ → ℕ → ℕ → List (ℕ × ℕ)

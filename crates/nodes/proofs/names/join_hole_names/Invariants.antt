@@ -1,4 +1,5 @@
-use Rattle.nodes.specs.NameSteps.{BindersAndBelow, NamesAlways}
+use Rattle.nodes.specs.NameSteps.{NamesAlways}
+use Rattle.nodes.proofs.HoleNames.{BindersAndBelow}
 use Rattle.nodes.specs.Records.{written}
 use Rattle.nodes.proofs.names.join_hole_names.Given as goal
 

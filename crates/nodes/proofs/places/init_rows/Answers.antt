@@ -1,5 +1,7 @@
 use Rattle.std.proofs.Common.{below_more, arith}
-use Rattle.nodes.proofs.FirstRows.{first_exact, parts_few, row_below}
+use Rattle.nodes.specs.Starting.{written_part}
+use Rattle.nodes.proofs.FirstRows.{first_exact, parts_few}
+use Rattle.nodes.proofs.OwnParts.{own_below}
 use Rattle.nodes.proofs.places.init_rows.Goals as goal
 
 pub write_row-requires-clause-few : goal.write_row-requires-clause-few
@@ -8,7 +10,7 @@ write_row-requires-clause-few c = parts_few c.args.size c.args.words.now c.requi
 pub loop-p-preserved : goal.loop-p-preserved
 loop-p-preserved c =
     below_more _ _
-    (λ i h. row_below c.args.words.now c.loop-p.rows c.write_row.new.rows c.loop-p.p i h c.write_row.ensures.below (c.loop-p.invariant i h))
+    (λ i h. own_below (written_part c.args.words.now) c.loop-p.rows c.write_row.new.rows c.loop-p.p i h c.write_row.ensures.below (c.loop-p.invariant i h))
     c.write_row.ensures.own
 
 pub returns : goal.returns
