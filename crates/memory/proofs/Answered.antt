@@ -7,8 +7,9 @@ use Rattle.recipe.specs.Fillings.{Pair}
 use Rattle.recipe.specs.Histories.{accepted_pair}
 use Rattle.recipe.specs.Tables.{Table}
 use Rattle.recipe.specs.Tells.{Tells}
+use Rattle.nodes.specs.Records.{written}
 use Rattle.memory.specs.Answering.{RightTells, request_of, told_by}
-use Rattle.memory.specs.Layout.{KeepsPast}
+use Rattle.memory.specs.Layout.{KeepsPast, records}
 use Rattle.memory.specs.Solved.{Solved, written_table}
 use Rattle.recipe.specs.declared.refusals.Refusal.{Refusal}
 use Rattle.memory.specs.declared.answering.Tell.{Tell}
@@ -32,25 +33,25 @@ pub record Answered (size m : ℕ) (before : List ℕ) (old : List Tell) (k stan
   pub right : RightTells nat_eq (written_table size before) [] (take k ts)
   pub solved : Solved size m (told_by (take k ts)) ws
   pub many : length (told_by (take k ts)) ≡ standing
-  pub table : written_table size ws ≡ written_table size before
+  pub records : records size ws ≡ records size before
   pub past : KeepsPast size m before ws
 
 -- one tell more is answered
-pub answered_more : {size m : ℕ} {before : List ℕ} {old : List Tell} {k standing : ℕ} {ts : List Tell} {ws : List ℕ} → Answered size m before old k standing ts ws → k < length ts → (d : Tell) (answer : Result (Unit {0}) Refusal) (next : ℕ) (new : List ℕ) → Tells nat_eq (written_table size ws) (told_by (take k ts)) (get_or ts k d).first (get_or ts k d).second answer → Solved size m (told_by (take k ts) ++ accepted_pair (get_or ts k d).first (get_or ts k d).second answer) new → written_table size new ≡ written_table size ws → KeepsPast size m ws new → next ≡ standing + length (accepted_pair (get_or ts k d).first (get_or ts k d).second answer) → Answered size m before old (k + 1) next (set ts k (record { first = (get_or ts k d).first; second = (get_or ts k d).second; answer = answer })) new
-answered_more {size = size} {m = m} {k = k} {ts = ts} so low d answer next new told solved table past counts =
+pub answered_more : {size m : ℕ} {before : List ℕ} {old : List Tell} {k standing : ℕ} {ts : List Tell} {ws : List ℕ} → Answered size m before old k standing ts ws → k < length ts → (d : Tell) (answer : Result (Unit {0}) Refusal) (next : ℕ) (new : List ℕ) → Tells nat_eq (written_table size ws) (told_by (take k ts)) (get_or ts k d).first (get_or ts k d).second answer → Solved size m (told_by (take k ts) ++ accepted_pair (get_or ts k d).first (get_or ts k d).second answer) new → records size new ≡ records size ws → KeepsPast size m ws new → next ≡ standing + length (accepted_pair (get_or ts k d).first (get_or ts k d).second answer) → Answered size m before old (k + 1) next (set ts k (record { first = (get_or ts k d).first; second = (get_or ts k d).second; answer = answer })) new
+answered_more {size = size} {m = m} {k = k} {ts = ts} so low d answer next new told solved same past counts =
     let t : Tell = record { first = (get_or ts k d).first; second = (get_or ts k d).second; answer = answer } in
     let front : take (k + 1) (set ts k t) ≡ take k ts ++ (t ∷ []) = take_more_set ts k t low in
     let pairs : told_by (take (k + 1) (set ts k t)) ≡ told_by (take k ts) ++ accepted_pair t.first t.second answer = ap told_by front ∙ told_more (take k ts) t in
     record {
       long = length-set ts k t ∙ so.long;
       asked = map-set_same request_of ts k t d refl ∙ so.asked;
-      right = rw front (right_more nat_eq _ [] (take k ts) t so.right (subst (λ T. Tells nat_eq T (told_by (take k ts)) t.first t.second answer) so.table told));
+      right = rw front (right_more nat_eq _ [] (take k ts) t so.right (subst (λ ws. Tells nat_eq (written size ws) (told_by (take k ts)) t.first t.second answer) so.records told));
       solved = rw pairs solved;
       many = ap length pairs ∙ length-append (told_by (take k ts)) (accepted_pair t.first t.second answer) ∙ ap (λ n. n + length (accepted_pair t.first t.second answer)) so.many ∙ sym counts;
-      table = table ∙ so.table;
+      records = same ∙ so.records;
       past = λ n high. past n high ∙ so.past n high;
     }
 
 -- before the first
 pub answered_none : (size m : ℕ) (ws : List ℕ) (ts : List Tell) → Solved size m [] ws → Answered size m ws ts 0 0 ts ws
-answered_none size m ws ts solved = record { long = refl; asked = refl; right = tt; solved = solved; many = refl; table = refl; past = λ n high. refl }
+answered_none size m ws ts solved = record { long = refl; asked = refl; right = tt; solved = solved; many = refl; records = refl; past = λ n high. refl }

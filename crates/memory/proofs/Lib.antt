@@ -1,6 +1,6 @@
 pub mod Answered
 pub mod Opened
-pub mod Parts
+pub mod Exchanged
 pub mod Ranges
 pub mod Solving
 pub mod TellsRight

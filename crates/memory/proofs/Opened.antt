@@ -17,9 +17,9 @@ use Rattle.nodes.specs.HoldersWritten.{HoldersWritten}
 use Rattle.nodes.specs.Records.{written}
 use Rattle.nodes.proofs.WrittenTables.{written_same}
 use Rattle.memory.specs.Layout.{forests_start, marks_start, records, used}
-use Rattle.memory.specs.Solved.{EnteredIn, HasTable, PartsHold, Solved, written_table}
+use Rattle.memory.specs.Solved.{EnteredIn, HasTable, SlicesHold, Solved, written_table}
 use Rattle.memory.proofs.Told.{records_kept}
-use Rattle.memory.proofs.Whole.{Parts, memory_holds, table_is, table_over}
+use Rattle.memory.proofs.Whole.{Cut, memory_holds, table_is, table_over}
 
 -- no pairs have any filling
 pub none_filled : {L : Type 0} (same : L → L → Bool) (T : Table L) → Satisfiable same T []
@@ -45,14 +45,14 @@ opened_table m front valid named few room alike holders = record {
 }
 
 -- the parts of a memory that is opened: the words up to the marks are kept while the forests are made
-pub opened_parts : (size m : ℕ) (f g a : List ℕ) → HasTable size m f → length g ≡ length f → take (marks_start size) g ≡ take (marks_start size) f → EnteredIn (written_table size f) m [] a → PartsHold size m [] g a a
+pub opened_parts : (size m : ℕ) (f g a : List ℕ) → HasTable size m f → length g ≡ length f → take (marks_start size) g ≡ take (marks_start size) f → EnteredIn (written_table size f) m [] a → SlicesHold size m [] g a a
 opened_parts size m f g a table long kept entered =
     let same = records_kept size f g table.room long kept in
     let made = subst (λ ws. EnteredIn (written size ws) m [] a) (sym same) entered in
     record { table = table_over (sym same) (rw long table.room) table; pairs = refl; first = made; second = made }
 
 -- a memory with such parts is solved for no pairs
-pub opened_solved : (size m : ℕ) {ws f a b r : List ℕ} → Parts size m ws f a b r → PartsHold size m [] f a b → Solved size m [] ws
+pub opened_solved : (size m : ℕ) {ws f a b r : List ℕ} → Cut size m ws f a b r → SlicesHold size m [] f a b → Solved size m [] ws
 opened_solved size m parts hold = record {
   few_told = omega arith;
   ready = subst (λ T. WellFormed T m []) (sym (table_is parts)) hold.table.ready;

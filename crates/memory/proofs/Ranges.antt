@@ -1,8 +1,8 @@
 -- Ranges of lists that are made of parts. Assumes nothing.
-use Rattle.std.proofs.Common.{◌≡◌, ℕ, ◌*◌, ◌-◌, ◌≤◌, List, ◌++◌, length, take, drop, slice_range, rules, arith, ap, ◌∙◌}
+use Rattle.std.proofs.Common.{◌≡◌, ℕ, ◌*◌, ◌-◌, ◌≤◌, List, ◌++◌, length, take, slice_range, rules, arith, ap, ◌∙◌}
 use Rattle.std.proofs.lemmas.List.{places, same_lists}
-use lib.Seq.{length-take-le, take-take, take_at, drop_at}
-use Rattle.memory.specs.Layout.{first_forests, forests_length, forests_start, marks_start, records}
+use lib.Seq.{take-take, take_at, drop_at}
+use Rattle.memory.specs.Layout.{forests_start, marks_start, records}
 
 -- a range is the range of a front that ends with it or later
 pub range_front : {A : Type 0} (from to n : ℕ) (xs : List A) → from ≤ to → to ≤ n → n ≤ length xs → slice_range (take n xs) from to ≡ slice_range xs from to
@@ -12,17 +12,12 @@ range_front from to n xs ordered within long = same_lists _ _ (search (rules, pl
 pub front_front : {A : Type 0} (n m : ℕ) (xs : List A) → n ≤ m → take n (take m xs) ≡ take n xs
 front_front n m xs h = take-take n m xs h
 
--- the words of the records, as what stands before the marks has them
-pub records_of_front : (size mid : ℕ) (before ws : List ℕ) → mid ≡ marks_start size → forests_start size ≤ length ws → before ≡ take mid ws → slice_range before 1024 (length before) ≡ records size ws
-records_of_front size mid before ws is room front =
-    let long : length before ≡ marks_start size = ap length front ∙ length-take-le mid ws (omega (arith, is, room)) ∙ is in
-    ap (λ n. slice_range before 1024 n) long ∙ ap (λ xs. slice_range xs 1024 (marks_start size)) (front ∙ ap (λ n. take n ws) is) ∙ range_front 1024 (marks_start size) (marks_start size) ws (omega arith) (omega arith) (omega (arith, room))
+-- the records, as what stands before the marks has them
+pub records_before : (size mid : ℕ) (before ws : List ℕ) → mid ≡ marks_start size → forests_start size ≤ length ws → before ≡ take mid ws → records size before ≡ records size ws
+records_before size mid before ws is room front =
+    ap (records size) (front ∙ ap (λ n. take n ws) is) ∙ range_front 1024 (marks_start size) (marks_start size) ws (omega arith) (omega arith) (omega (arith, room))
 
 -- the words that stand where the records do
 pub records_at : (size : ℕ) (before words after : List ℕ) → length before ≡ 1024 → length words ≡ 8 * size → records size (before ++ (words ++ after)) ≡ words
 records_at size before words after first long =
     ap (take (marks_start size - 1024)) (drop_at before (words ++ after) 1024 first) ∙ take_at words after (marks_start size - 1024) (omega (arith, long))
-
--- the first forests, as they are cut off a memory
-pub first_cut : (size m start long : ℕ) (ws rest first : List ℕ) → start ≡ forests_start size → long ≡ forests_length size m → rest ≡ drop start ws → first ≡ take long rest → first ≡ first_forests size m ws
-first_cut size m start long ws rest first e f g h = h ∙ ap (λ n. take n rest) f ∙ ap (take (forests_length size m)) (g ∙ ap (λ n. drop n ws) e)

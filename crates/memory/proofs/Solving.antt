@@ -10,13 +10,13 @@ use Rattle.closure.specs.Decision.{WellFormed}
 use Rattle.closure.proofs.OtherLeaves.{ready_more}
 use Rattle.nodes.specs.Records.{written}
 use Rattle.memory.specs.Layout.{forests_length, forests_start, records, used}
-use Rattle.memory.specs.Solved.{PartsHold, Solved, written_table}
+use Rattle.memory.specs.Solved.{SlicesHold, Solved, written_table}
 use Rattle.memory.proofs.Told.{one_longer}
-use Rattle.memory.proofs.Whole.{Parts, memory_holds, parts_hold, past_is, table_is}
+use Rattle.memory.proofs.Whole.{Cut, memory_holds, past_is, records_is, slices_hold, table_is}
 
 -- the parts of a memory that is cut three times
-pub parts_of : {size m : ℕ} {ws f a b r rest others : List ℕ} → ws ≡ f ++ rest → rest ≡ a ++ others → others ≡ b ++ r → length f ≡ forests_start size → length a ≡ forests_length size m → length b ≡ forests_length size m → Parts size m ws f a b r
-parts_of {f = f} {a = a} one two three front first second = record {
+pub cut_of : {size m : ℕ} {ws f a b r rest others : List ℕ} → ws ≡ f ++ rest → rest ≡ a ++ others → others ≡ b ++ r → length f ≡ forests_start size → length a ≡ forests_length size m → length b ≡ forests_length size m → Cut size m ws f a b r
+cut_of {f = f} {a = a} one two three front first second = record {
   joined = one ∙ ap (λ xs. f ++ xs) (two ∙ ap (λ xs. a ++ xs) three);
   front_long = front;
   first_long = first;
@@ -38,27 +38,30 @@ pub decided_filled : {T : Table ℕ} (told : List Pair) (p q : ℕ) (r : Result 
 decided_filled told p q (Ok u) filled (Decided.accepted satisfied apart acyclic) = satisfied
 decided_filled told p q (Err e) filled decided = rw (append-nil told) filled
 
-module _ {size m : ℕ} {ws f a b r : List ℕ} (parts : Parts size m ws f a b r) where
-  pub parts_solved : {told : List Pair} → 0 < size → Solved size m told ws → PartsHold size m told f a b
-  parts_solved some solved = parts_hold parts solved.few_told (solved.words some)
+module _ {size m : ℕ} {ws f a b r : List ℕ} (parts : Cut size m ws f a b r) where
+  pub slices_solved : {told : List Pair} → 0 < size → Solved size m told ws → SlicesHold size m told f a b
+  slices_solved some solved = slices_hold parts solved.few_told (solved.words some)
 
   -- the answer for the parts is the answer for the memory
-  pub decided_whole : {told : List Pair} (p q : ℕ) → p < size → q < size → depth (written_table size ws) p ≡ depth (written_table size ws) q → Solved size m told ws → (answer : Result (Unit {0}) Refusal) → (PartsHold size m told f a b → WellFormed (written_table size f) m (told ++ ((p, q) ∷ [])) → Decided nat_eq (written_table size f) (told ++ ((p, q) ∷ [])) answer) → Decided nat_eq (written_table size ws) (told ++ ((p, q) ∷ [])) answer
+  pub decided_whole : {told : List Pair} (p q : ℕ) → p < size → q < size → depth (written_table size ws) p ≡ depth (written_table size ws) q → Solved size m told ws → (answer : Result (Unit {0}) Refusal) → (SlicesHold size m told f a b → WellFormed (written_table size f) m (told ++ ((p, q) ∷ [])) → Decided nat_eq (written_table size f) (told ++ ((p, q) ∷ [])) answer) → Decided nat_eq (written_table size ws) (told ++ ((p, q) ∷ [])) answer
   decided_whole {told = told} p q first second depths solved answer decided =
       subst (λ T. Decided nat_eq T (told ++ ((p, q) ∷ [])) answer) (sym (table_is parts))
-      (decided (parts_solved (omega (arith, first)) solved) (subst (λ T. WellFormed T m (told ++ ((p, q) ∷ []))) (table_is parts) (ready_more _ told p q solved.ready (first, second, depths))))
+      (decided (slices_solved (omega (arith, first)) solved) (subst (λ T. WellFormed T m (told ++ ((p, q) ∷ []))) (table_is parts) (ready_more _ told p q solved.ready (first, second, depths))))
 
-module _ {size m : ℕ} {ws f a b r vs g c d : List ℕ} (old : Parts size m ws f a b r) (new : Parts size m vs g c d r) (same : records size g ≡ records size f) where
-  -- the table of the new memory is that of the old one
-  pub table_again : written_table size vs ≡ written_table size ws
-  table_again = table_is new ∙ ap (written size) same ∙ sym (table_is old)
+module _ {size m : ℕ} {ws f a b r vs g c d : List ℕ} (old : Cut size m ws f a b r) (new : Cut size m vs g c d r) (same : records size g ≡ records size f) where
+  -- the records of the new memory are those of the old one
+  pub records_again : records size vs ≡ records size ws
+  records_again = records_is new ∙ same ∙ sym (records_is old)
+
+  table_again : written_table size vs ≡ written_table size ws
+  table_again = ap (written size) records_again
 
   -- and so are the words past those that are used
   pub past_again : drop (used size m) vs ≡ drop (used size m) ws
   past_again = past_is new ∙ sym (past_is old)
 
   -- where the parts hold the pairs after the answer, the memory is solved for them
-  pub solved_again : (told : List Pair) (p q : ℕ) → p < size → q < size → depth (written_table size ws) p ≡ depth (written_table size ws) q → length told < 512 → (answer : Result (Unit {0}) Refusal) → Solved size m told ws → Decided nat_eq (written_table size ws) (told ++ ((p, q) ∷ [])) answer → PartsHold size m (told ++ accepted_pair p q answer) g c d → Solved size m (told ++ accepted_pair p q answer) vs
+  pub solved_again : (told : List Pair) (p q : ℕ) → p < size → q < size → depth (written_table size ws) p ≡ depth (written_table size ws) q → length told < 512 → (answer : Result (Unit {0}) Refusal) → Solved size m told ws → Decided nat_eq (written_table size ws) (told ++ ((p, q) ∷ [])) answer → SlicesHold size m (told ++ accepted_pair p q answer) g c d → Solved size m (told ++ accepted_pair p q answer) vs
   solved_again told p q first second depths few answer solved decided hold =
       let many = few_after told p q answer few in
       record {

@@ -1,12 +1,12 @@
 -- Answers to a list of tells, on one table and on one like it, and as a history. Assumes nothing.
-use Rattle.std.proofs.Common.{◌≡◌, ℕ, ◌≤◌, Bool, true, false, cond, List, [], ◌∷◌, ◌++◌, map, Ok, Err, Result, is_ok, nat_le, sym, ap, ◌∙◌, subst, refl, arith, rules}
+use Rattle.std.proofs.Common.{◌≡◌, ℕ, Bool, true, List, [], ◌∷◌, ◌++◌, map, Ok, Result, is_ok, nat_le, sym, ap, ◌∙◌, subst, refl, arith}
 use Rattle.std.proofs.lemmas.Bool.{cond-true, le-leb}
 use mathlib.Core.List.{append-nil}
 use Rattle.recipe.specs.Checking.{checked, needed}
 use Rattle.recipe.specs.Fillings.{Pair}
-use Rattle.recipe.specs.Histories.{Entry, RightRun, accepted_pair, accepted_pairs, request, sheet_table, table_within}
+use Rattle.recipe.specs.Histories.{Entry, RightRun, accepted_pair, accepted_pairs, request, sheet_table}
 use Rattle.recipe.specs.Sameness.{Sameness}
-use Rattle.recipe.specs.Tables.{Table, empty_table, table_of}
+use Rattle.recipe.specs.Tables.{Table, empty_table}
 use Rattle.recipe.specs.Tells.{Tells}
 use Rattle.recipe.specs.Validity.{Valid}
 use Rattle.recipe.specs.declared.places.Place.{Place}
@@ -17,7 +17,7 @@ use Rattle.recipe.proofs.Validation.{checked_needs, checked_valid}
 use Rattle.closure.specs.Decision.{WellFormed}
 use Rattle.closure.specs.OtherLeaves.{SameTables}
 use Rattle.closure.proofs.OtherLeaves.{leaves_do_not_matter_lem, no_fault, ready_more}
-use Rattle.memory.specs.Answering.{RightTells, entry_of, opening_answer, refused_tell, request_of}
+use Rattle.memory.specs.Answering.{RightTells, entry_of, refused_tell, request_of}
 use Rattle.memory.specs.declared.answering.Tell.{Tell}
 use Rattle.memory.proofs.Solving.{ready_after}
 
@@ -61,22 +61,6 @@ refused_right same pairs (t ∷ ts) = (Tells.refused (cond-true (nat_le 0 t.firs
 pub refused_asked : (ts : List Tell) → map request_of (map refused_tell ts) ≡ map request_of ts
 refused_asked [] = refl
 refused_asked (t ∷ ts) = ap (λ rs. request_of t ∷ rs) (refused_asked ts)
-
--- a table that can be opened is opened where there are the words that it needs
-pub opens : {L : Type 0} (places : List Place) (ls : List L) (words : ℕ) → is_ok (checked places ls) ≡ true → needed places ≤ words → opening_answer words (checked places ls) ≡ Ok tt
-opens places ls words ok enough = ap (opening_answer words) (checked_needs places ls ok) ∙ cond-true (nat_le (needed places) words) _ _ (le-leb (needed places) words enough)
-
--- where it is not opened the sheet has the table without places
-short_table : {L : Type 0} (T : Table L) (e : Refusal) (b : Bool) → ◌≡◌ {A = Result (Unit {0}) Refusal} (cond b (Ok tt) (Err Refusal.MemoryTooShort)) (Err e) → cond b T empty_table ≡ empty_table
-short_table T e true is = search rules
-short_table T e false is = refl
-
-not_opened_by : {L : Type 0} (words : ℕ) (T : Table L) (r : Result ℕ Refusal) (e : Refusal) → opening_answer words r ≡ Err e → table_within words T r ≡ empty_table
-not_opened_by words T (Ok n) e is = short_table T e (nat_le n words) is
-not_opened_by words T (Err d) e is = refl
-
-pub not_opened : {L : Type 0} (places : List Place) (ls : List L) (words : ℕ) (e : Refusal) → opening_answer words (checked places ls) ≡ Err e → sheet_table places ls words ≡ empty_table
-not_opened places ls words e is = not_opened_by words (table_of places ls) (checked places ls) e is
 
 -- where the answer is a number, it is the need
 pub is_needed : {L : Type 0} (places : List Place) (ls : List L) (n : ℕ) → Ok n ≡ checked places ls → n ≡ needed places

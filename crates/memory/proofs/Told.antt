@@ -6,7 +6,7 @@ use Rattle.recipe.specs.Fillings.{Pair}
 use Rattle.recipe.specs.Histories.{accepted_pair}
 use Rattle.recipe.specs.declared.refusals.Refusal.{Refusal}
 use Rattle.memory.specs.Layout.{forests_start, marks_start, pair_words, records}
-use Rattle.memory.specs.Solved.{EnteredIn, HasTable, PartsHold, written_table}
+use Rattle.memory.specs.Solved.{EnteredIn, HasTable, SlicesHold, written_table}
 use Rattle.nodes.specs.Records.{written}
 use Rattle.memory.proofs.Whole.{same_records, table_over}
 
@@ -37,13 +37,13 @@ module _ (size : ℕ) (f g : List ℕ) (room : forests_start size ≤ length f) 
   pub records_written : (h : List ℕ) → length g ≡ length f → take (marks_start size) g ≡ take (marks_start size) f → drop 1024 h ≡ drop 1024 g → records size h ≡ records size f
   records_written h long kept after = ap (take (marks_start size - 1024)) after ∙ records_kept long kept
 
-module _ {size m : ℕ} {told : List Pair} {f a b : List ℕ} (hold : PartsHold size m told f a b) (g : List ℕ) (long : length g ≡ length f) (kept : take (marks_start size) g ≡ take (marks_start size) f) where
+module _ {size m : ℕ} {told : List Pair} {f a b : List ℕ} (hold : SlicesHold size m told f a b) (g : List ℕ) (long : length g ≡ length f) (kept : take (marks_start size) g ≡ take (marks_start size) f) where
   -- the first words, where all words up to the marks are kept
   first_words : (n : ℕ) → n ≤ marks_start size → take n g ≡ take n f
   first_words n low = sym (take-take n (marks_start size) g low) ∙ ap (take n) kept ∙ take-take n (marks_start size) f low
 
   -- nothing told: the second forests are those that hold
-  pub as_before : length told ≤ 512 → PartsHold size m told g b b
+  pub as_before : length told ≤ 512 → SlicesHold size m told g b b
   as_before few =
       let same = records_kept size f g hold.table.room long kept in
       record {
@@ -59,7 +59,7 @@ module _ {size m : ℕ} {told : List Pair} {f a b : List ℕ} (hold : PartsHold 
     table_written = table_over (sym (records_written size f g hold.table.room h long kept after)) (rw (tall, long) hold.table.room) hold.table
 
     -- one pair more
-    pub one_more : {k c d : List ℕ} → length told < 512 → take (2 * length told + 2) h ≡ take (2 * length told) g ++ (p ∷ q ∷ []) → length k ≡ length h → take (marks_start size) k ≡ take (marks_start size) h → EnteredIn (written_table size f) m (told ++ ((p, q) ∷ [])) c → EnteredIn (written_table size h) m (told ++ ((p, q) ∷ [])) d → PartsHold size m (told ++ ((p, q) ∷ [])) k c d
+    pub one_more : {k c d : List ℕ} → length told < 512 → take (2 * length told + 2) h ≡ take (2 * length told) g ++ (p ∷ q ∷ []) → length k ≡ length h → take (marks_start size) k ≡ take (marks_start size) h → EnteredIn (written_table size f) m (told ++ ((p, q) ∷ [])) c → EnteredIn (written_table size h) m (told ++ ((p, q) ∷ [])) d → SlicesHold size m (told ++ ((p, q) ∷ [])) k c d
     one_more {k = k} {c = c} {d = d} few pair large still first second =
         let before = records_written size f g hold.table.room h long kept after in
         let same = records_kept size h k table_written.room large still in

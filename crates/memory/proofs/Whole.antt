@@ -5,12 +5,12 @@ use Rattle.recipe.specs.Fillings.{Pair}
 use Rattle.closure.specs.Decision.{HolesBelow, WellFormed}
 use Rattle.nodes.specs.HoldersWritten.{HoldersWritten}
 use Rattle.nodes.specs.Records.{written}
-use Rattle.memory.specs.Layout.{KeepsPast, first_forests, forests_length, forests_start, marks_start, records, second_forests, used}
-use Rattle.memory.specs.Solved.{EnteredIn, HasTable, Holds, PartsHold, written_table}
+use Rattle.memory.specs.Layout.{KeepsPast, first_copy, forests_length, forests_start, marks_start, records, second_copy, used}
+use Rattle.memory.specs.Solved.{EnteredIn, HasTable, Holds, SlicesHold, written_table}
 use Rattle.memory.proofs.Ranges.{range_front}
 
 -- the parts of a memory
-pub record Parts (size m : ℕ) (ws f a b r : List ℕ) : Type 0 where
+pub record Cut (size m : ℕ) (ws f a b r : List ℕ) : Type 0 where
   pub joined : ws ≡ f ++ (a ++ (b ++ r))
   pub front_long : length f ≡ forests_start size
   pub first_long : length a ≡ forests_length size m
@@ -34,20 +34,20 @@ same_records size f g long too same =
     ∙ ap (λ xs. slice_range xs 1024 (marks_start size)) same
     ∙ range_front 1024 (marks_start size) (marks_start size) g (omega arith) (omega arith) too
 
-module _ {size m : ℕ} {ws f a b r : List ℕ} (parts : Parts size m ws f a b r) where
+module _ {size m : ℕ} {ws f a b r : List ℕ} (parts : Cut size m ws f a b r) where
   rest_is : drop (forests_start size) ws ≡ a ++ (b ++ r)
   rest_is = ap (drop (forests_start size)) parts.joined ∙ drop_at f (a ++ (b ++ r)) (forests_start size) parts.front_long
 
   front_is : take (forests_start size) ws ≡ f
   front_is = ap (take (forests_start size)) parts.joined ∙ take_at f (a ++ (b ++ r)) (forests_start size) parts.front_long
 
-  pub first_is : first_forests size m ws ≡ a
+  pub first_is : first_copy size m ws ≡ a
   first_is = ap (take (forests_length size m)) rest_is ∙ take_at a (b ++ r) (forests_length size m) parts.first_long
 
   others_is : drop (forests_length size m) (drop (forests_start size) ws) ≡ b ++ r
   others_is = ap (drop (forests_length size m)) rest_is ∙ drop_at a (b ++ r) (forests_length size m) parts.first_long
 
-  pub second_is : second_forests size m ws ≡ b
+  pub second_is : second_copy size m ws ≡ b
   second_is = ap (take (forests_length size m)) others_is ∙ take_at b r (forests_length size m) parts.second_long
 
   -- the words past all that is used
@@ -79,21 +79,21 @@ module _ {size m : ℕ} {ws f a b r : List ℕ} (parts : Parts size m ws f a b r
   front_words n low = ap (take n) parts.joined ∙ take-append-le n f (a ++ (b ++ r)) (rw parts.front_long low)
 
   -- what the memory holds its parts hold, and the other way round
-  pub parts_hold : {told : List Pair} → length told ≤ 512 → Holds size m told ws → PartsHold size m told f a b
-  parts_hold {told = told} few holds = record {
+  pub slices_hold : {told : List Pair} → length told ≤ 512 → Holds size m told ws → SlicesHold size m told f a b
+  slices_hold {told = told} few holds = record {
     table = table_over records_is (rw parts.front_long (omega arith)) holds.table;
     pairs = sym (front_words (2 * length told) (omega (arith, few))) ∙ holds.pairs;
     first = subst (λ T. EnteredIn T m told a) table_is (subst (EnteredIn (written_table size ws) m told) first_is holds.first);
     second = subst (λ T. EnteredIn T m told b) table_is (subst (EnteredIn (written_table size ws) m told) second_is holds.second);
   }
 
-  pub memory_holds : {told : List Pair} → length told ≤ 512 → PartsHold size m told f a b → Holds size m told ws
+  pub memory_holds : {told : List Pair} → length told ≤ 512 → SlicesHold size m told f a b → Holds size m told ws
   memory_holds {told = told} few hold = record {
     room = room_is;
     table = table_over (sym records_is) (omega (arith, room_is)) hold.table;
     pairs = front_words (2 * length told) (omega (arith, few)) ∙ hold.pairs;
-    first = subst (λ T. EnteredIn T m told (first_forests size m ws)) (sym table_is) (subst (EnteredIn (written_table size f) m told) (sym first_is) hold.first);
-    second = subst (λ T. EnteredIn T m told (second_forests size m ws)) (sym table_is) (subst (EnteredIn (written_table size f) m told) (sym second_is) hold.second);
+    first = subst (λ T. EnteredIn T m told (first_copy size m ws)) (sym table_is) (subst (EnteredIn (written_table size f) m told) (sym first_is) hold.first);
+    second = subst (λ T. EnteredIn T m told (second_copy size m ws)) (sym table_is) (subst (EnteredIn (written_table size f) m told) (sym second_is) hold.second);
   }
 
 -- where the words past all that is used are as before, they are so from any later word on

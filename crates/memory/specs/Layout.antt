@@ -2,30 +2,29 @@
 use Rattle.std.specs.Prelude.{◌≡◌, ℕ, suc, ◌+◌, ◌*◌, ◌<◌, ◌≤◌, List, [], ◌∷◌, drop, slice_range, take}
 use Rattle.recipe.specs.Fillings.{Pair}
 
--- the told pairs have the first 1,024 words, two a pair; then come eight words a record, and one mark a place
+-- the told pairs have the first 1,024 words, two a pair; then come the records, eight words a place
 abbrev pub records_start : ℕ
 records_start = 1024
 
+-- then one mark a place
 abbrev pub marks_start : ℕ → ℕ
-marks_start size = 1024 + 8 * size
+marks_start size = records_start + 8 * size
 
+-- then the forests, and the forests again
 abbrev pub forests_start : ℕ → ℕ
-forests_start size = 1024 + 9 * size
+forests_start size = records_start + 9 * size
 
--- four words for each place, and four for nowhere and each of m names at each place
+-- the two forests have four words for each place, and four for nowhere and each of m names at each place
 abbrev pub forests_length : ℕ → ℕ → ℕ
 forests_length size m = 4 * size + 4 * suc (m * size)
 
--- what stands before the forests
-abbrev pub front : ℕ → List ℕ → List ℕ
-front size ws = take (forests_start size) ws
+-- the first copy of the forests
+abbrev pub first_copy : ℕ → ℕ → List ℕ → List ℕ
+first_copy size m ws = take (forests_length size m) (drop (forests_start size) ws)
 
--- the two forests, and the two forests again
-abbrev pub first_forests : ℕ → ℕ → List ℕ → List ℕ
-first_forests size m ws = take (forests_length size m) (drop (forests_start size) ws)
-
-abbrev pub second_forests : ℕ → ℕ → List ℕ → List ℕ
-second_forests size m ws = take (forests_length size m) (drop (forests_length size m) (drop (forests_start size) ws))
+-- the second copy
+abbrev pub second_copy : ℕ → ℕ → List ℕ → List ℕ
+second_copy size m ws = take (forests_length size m) (drop (forests_length size m) (drop (forests_start size) ws))
 
 -- the end of all this
 abbrev pub used : ℕ → ℕ → ℕ
@@ -39,10 +38,11 @@ KeepsPast size m old new = (n : ℕ) → (0 < size → used size m ≤ n) → dr
 abbrev pub records : ℕ → List ℕ → List ℕ
 records size ws = slice_range ws records_start (marks_start size)
 
--- the rows of the forest over places, and of that over names
+-- the rows of the forest over places
 abbrev pub places_rows : ℕ → List ℕ → List ℕ
 places_rows size forests = take (4 * size) forests
 
+-- the rows of the forest over names
 abbrev pub names_rows : ℕ → List ℕ → List ℕ
 names_rows size forests = drop (4 * size) forests
 

@@ -1,3 +1,4 @@
 pub mod Answering
+pub mod Joins
 pub mod Layout
 pub mod Solved

@@ -1,12 +1,16 @@
 -- What a memory holds of a table and its told pairs. Assumes nothing. (docs/RULES.md, "The memory")
-use Rattle.std.specs.Prelude.{◌≡◌, ℕ, ◌*◌, ◌<◌, ◌≤◌, List, [], length, nat_eq, take}
+use Rattle.std.specs.Prelude.{◌≡◌, ℕ, ◌*◌, ◌<◌, ◌≤◌, Bool, List, [], length, nat_eq, take}
+use Rattle.std.specs.List.{range_with_len}
+use Rattle.recipe.specs.Checking.{name_count}
 use Rattle.recipe.specs.Fillings.{Pair, Satisfiable}
-use Rattle.recipe.specs.Tables.{Table}
+use Rattle.recipe.specs.Tables.{Table, table_of}
+use Rattle.recipe.specs.declared.places.Place.{Place}
 use Rattle.closure.specs.Decision.{HolesBelow, WellFormed}
+use Rattle.closure.specs.OtherLeaves.{SameTables}
 use Rattle.nodes.specs.Entering.{Entered}
 use Rattle.nodes.specs.HoldersWritten.{HoldersWritten}
 use Rattle.nodes.specs.Records.{written}
-use Rattle.memory.specs.Layout.{first_forests, forests_start, names_rows, pair_words, places_rows, records, second_forests, used}
+use Rattle.memory.specs.Layout.{first_copy, forests_start, names_rows, pair_words, places_rows, records, second_copy, used}
 
 -- the table that the records write
 abbrev pub written_table : ℕ → List ℕ → Table ℕ
@@ -30,18 +34,28 @@ pub record Holds (size m : ℕ) (told : List Pair) (ws : List ℕ) : Type 0 wher
   pub room : used size m ≤ length ws
   pub table : HasTable size m ws
   pub pairs : take (2 * length told) ws ≡ pair_words told
-  pub first : EnteredIn (written_table size ws) m told (first_forests size m ws)
-  pub second : EnteredIn (written_table size ws) m told (second_forests size m ws)
+  pub first : EnteredIn (written_table size ws) m told (first_copy size m ws)
+  pub second : EnteredIn (written_table size ws) m told (second_copy size m ws)
 
--- a memory is solved for told pairs of the table that it writes, of some places and with names below m: they have a filling, and the words hold all this, but for a table without places, of which nothing is asked of them
+-- the words write a table of some places, with names below m, that is well formed with at most 512 told pairs; these have a filling in common; and, if there are places, the words hold the table, the pairs, and both copies of the forests
 pub record Solved (size m : ℕ) (told : List Pair) (ws : List ℕ) : Type 0 where
   pub few_told : length told ≤ 512
   pub ready : WellFormed (written_table size ws) m told
   pub filled : Satisfiable nat_eq (written_table size ws) told
   pub words : 0 < size → Holds size m told ws
 
+-- the words write the table of the records, with a number for each leaf: leaves are the same in one exactly where they are in the other
+abbrev pub CopiesTable : {L : Type 0} → (L → L → Bool) → List Place → List L → List ℕ → Type 0
+CopiesTable same places ls ws =
+    SameTables same nat_eq (table_of places ls) (written_table (length places) ws) ls (range_with_len 0 (length ls))
+
+-- a memory is solved for told pairs of the table of these records
+pub record SolvedFor {L : Type 0} (same : L → L → Bool) (places : List Place) (ls : List L) (told : List Pair) (ws : List ℕ) : Type 0 where
+  pub solved : Solved (length places) (name_count places) told ws
+  pub copied : CopiesTable same places ls ws
+
 -- the same of what stands before the forests, the forests and the forests again (only private functions cite it)
-pub record PartsHold (size m : ℕ) (told : List Pair) (before forests again : List ℕ) : Type 0 where
+pub record SlicesHold (size m : ℕ) (told : List Pair) (before forests again : List ℕ) : Type 0 where
   pub table : HasTable size m before
   pub pairs : take (2 * length told) before ≡ pair_words told
   pub first : EnteredIn (written_table size before) m told forests

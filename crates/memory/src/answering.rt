@@ -1,16 +1,17 @@
 // Telling a list of pairs, from the table on.
-ghost use Rattle.std.specs.Prelude.{◌≡◌, ℕ, ◌+◌, ◌≤◌, length, drop, map, nat_eq, [], Err, MatchResult};
-ghost use Rattle.recipe.specs.Checking.{checked, needed};
-ghost use Rattle.recipe.specs.Histories.{RightRun, accepted_pair};
-ghost use Rattle.memory.specs.Answering.{Opened, RightTells, entry_of, opening_answer, refused_tell, request_of};
-ghost use Rattle.memory.specs.Layout.{KeepsPast};
-ghost use Rattle.memory.specs.Solved.{Solved, written_table};
+ghost use Rattle.std.specs.Prelude.{◌≡◌, ℕ, ◌+◌, ◌≤◌, length, map, nat_eq, [], Ok, Err, MatchResult};
+ghost use Rattle.recipe.specs.Checking.{checked, name_count};
+ghost use Rattle.recipe.specs.Histories.{RightRun, accepted_pair, opening_answer};
+ghost use Rattle.recipe.specs.declared.refusals.Refusal.{Refusal};
+ghost use Rattle.memory.specs.Answering.{Opened, RightTells, entry_of, refused_tell, request_of, told_by};
+ghost use Rattle.memory.specs.Layout.{KeepsPast, records};
+ghost use Rattle.memory.specs.Solved.{Solved, SolvedFor, written_table};
 
 use crate::opening::open_memory;
 use crate::telling::tell;
 use recipe::{Leaf, Place, Refusal, check};
 
-// Two places that are told to be equal, and the answer to it.
+// Two places that are told to be equal, and the answer to it. What stands as the answer before it is given is not read.
 #[derive(Clone, Copy, Debug, PartialEq, Eq)]
 pub struct Tell {
     pub first: usize,
@@ -43,6 +44,8 @@ fn answer_opened(memory: &mut [u32], size: usize, names: usize, tells: &mut [Tel
     requires solved { Solved size names [] memory.old }
     ensures asked { map request_of tells.new ≡ map request_of tells.old }
     ensures right { RightTells nat_eq (written_table size memory.old) [] tells.new }
+    ensures solved { Solved size names (told_by tells.new) memory.new }
+    ensures records { records size memory.new ≡ records size memory.old }
     ensures past { KeepsPast size names memory.old memory.new }
 {
     let mut standing = 0;
@@ -76,7 +79,8 @@ fn open_checked<L: Leaf>(
 }
 
 // Opens a table in a memory and tells it a list of pairs in order: the answer to each tell is written beside it. The result
-// is why the table was not opened, if it was not; all tells are then answered as on a table without places.
+// is why the table was not opened, if it was not; all tells are then answered as on a table without places, and the memory
+// is as before.
 pub fn answer_tells<L: Leaf>(
     memory: &mut [u32],
     places: &[Place],
@@ -85,7 +89,9 @@ pub fn answer_tells<L: Leaf>(
 ) -> Result<(), Refusal>
     ensures opened { result ≡ opening_answer (length memory.old) (checked places.now leaves.now) }
     ensures answers { RightRun L.equates places.now leaves.now (length memory.old) (map request_of tells.old) (map entry_of tells.new) }
-    ensures past { drop (needed places.now) memory.new ≡ drop (needed places.now) memory.old }
+    ensures solved { result ≡ Ok tt → SolvedFor L.equates places.now leaves.now (told_by tells.new) memory.new }
+    ensures kept { (refusal : Refusal) → result ≡ Err refusal → memory.new ≡ memory.old }
+    ensures past { KeepsPast (length places.now) (name_count places.now) memory.old memory.new }
 {
     match open_checked(memory, places, leaves) {
         Ok(names) => {

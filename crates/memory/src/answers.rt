@@ -6,7 +6,7 @@ ghost use Rattle.nodes.specs.JoinedNames.{FindsJoined};
 ghost use Rattle.nodes.specs.NonHoles.{FindsNonHole};
 ghost use Rattle.memory.specs.Solved.{Solved, written_table};
 
-use crate::layout::{RECORDS_START, forests_length, forests_start, marks_start};
+use crate::layout::{first_rows, records_of};
 
 // The lowest place that is linked with `p` and is no hole, or none where only holes are, so that the class is open.
 pub fn non_hole(memory: &[u32], size: usize, names: usize, p: usize) -> Option<usize>
@@ -14,11 +14,8 @@ pub fn non_hole(memory: &[u32], size: usize, names: usize, p: usize) -> Option<u
     requires place { p < size }
     ensures { (told : List Pair) → Solved size names told memory.now → FindsNonHole (written_table size memory.now) told p result }
 {
-    let words = &memory[RECORDS_START..marks_start(size)];
-    let (_, forests) = memory.split_at(forests_start(size));
-    let (first, _) = forests.split_at(forests_length(size, names));
-    let (rows, _) = first.split_at(4 * size);
-    nodes::non_hole(rows, words, size, p)
+    let (rows, _) = first_rows(memory, size, names);
+    nodes::non_hole(rows, records_of(memory, size), size, p)
 }
 
 // Whether only holes are linked with `p`.
@@ -45,8 +42,6 @@ pub fn joined_name(
     requires name { x < names }
     ensures { (told : List Pair) → Solved size names told memory.now → FindsJoined (written_table size memory.now) names told p x q result }
 {
-    let (_, forests) = memory.split_at(forests_start(size));
-    let (first, _) = forests.split_at(forests_length(size, names));
-    let (_, names_rows) = first.split_at(4 * size);
+    let (_, names_rows) = first_rows(memory, size, names);
     nodes::joined_name(names_rows, size, names, p, x, q)
 }

@@ -6,25 +6,25 @@ ghost use Rattle.closure.specs.Decision.{WellFormed};
 ghost use Rattle.memory.specs.Layout.{forests_length, forests_start, marks_start};
 ghost use Rattle.memory.specs.Solved.{EnteredIn, HasTable, written_table};
 
-use crate::layout::{RECORDS_START, marks_start};
+use crate::layout::{marks_start, records_of};
 use nodes::{enter_pair, open_forests, tell_pair};
 use recipe::Refusal;
 
 // Makes the forests, before any tell.
-pub(crate) fn open_in(front: &mut [u32], forests: &mut [u32], size: usize, names: usize)
+pub(crate) fn open_copy(front: &mut [u32], forests: &mut [u32], size: usize, names: usize)
     requires table { HasTable size names front.old }
     requires long { length forests.old ≡ forests_length size names }
     ensures entered { EnteredIn (written_table size front.old) names [] forests.new }
     ensures kept { take (marks_start size) front.new ≡ take (marks_start size) front.old }
 {
     let (before, marks) = front.split_at_mut(marks_start(size));
-    let words = &before[RECORDS_START..];
+    let words = records_of(before, size);
     let (rows, names_rows) = forests.split_at_mut(4 * size);
     open_forests(rows, names_rows, words, size, names, marks);
 }
 
 // Enters a told pair in the forests.
-pub(crate) fn enter_in(
+pub(crate) fn enter_copy(
     front: &mut [u32],
     forests: &mut [u32],
     size: usize,
@@ -41,13 +41,13 @@ pub(crate) fn enter_in(
     ensures kept { take (marks_start size) front.new ≡ take (marks_start size) front.old }
 {
     let (before, marks) = front.split_at_mut(marks_start(size));
-    let words = &before[RECORDS_START..];
+    let words = records_of(before, size);
     let (rows, names_rows) = forests.split_at_mut(4 * size);
     enter_pair(rows, names_rows, words, size, names, marks, p, q);
 }
 
 // Enters a told pair in the forests, and says what the pairs come to with it; refused, the forests are not to be used on.
-pub(crate) fn tell_in(
+pub(crate) fn tell_copy(
     front: &mut [u32],
     forests: &mut [u32],
     size: usize,
@@ -65,7 +65,7 @@ pub(crate) fn tell_in(
     ensures kept { take (marks_start size) front.new ≡ take (marks_start size) front.old }
 {
     let (before, marks) = front.split_at_mut(marks_start(size));
-    let words = &before[RECORDS_START..];
+    let words = records_of(before, size);
     let (rows, names_rows) = forests.split_at_mut(4 * size);
     tell_pair(rows, names_rows, words, size, names, marks, p, q)
 }

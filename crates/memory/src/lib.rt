@@ -4,11 +4,13 @@
 mod answering;
 mod answers;
 mod forests;
+mod joins;
 mod layout;
 mod opening;
 mod telling;
 
 pub use answering::{Tell, answer_tells};
 pub use answers::{is_open, joined_name, non_hole};
+pub use joins::count_joins;
 pub use opening::open_memory;
 pub use telling::tell;

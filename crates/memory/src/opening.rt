@@ -1,15 +1,12 @@
 // Opening a table in one memory.
-ghost use Rattle.std.specs.Prelude.{◌≡◌, ◌<◌, ◌≤◌, length, nat_eq, []};
-ghost use Rattle.std.specs.List.{range_with_len};
+ghost use Rattle.std.specs.Prelude.{◌≡◌, ◌<◌, ◌≤◌, length, []};
 ghost use Rattle.recipe.specs.Checking.{name_count as names_of, needed};
-ghost use Rattle.recipe.specs.Tables.{table_of};
 ghost use Rattle.recipe.specs.Validity.{Valid};
-ghost use Rattle.closure.specs.OtherLeaves.{SameTables};
 ghost use Rattle.nodes.specs.HoldersWritten.{HoldersWritten};
 ghost use Rattle.memory.specs.Layout.{KeepsPast, forests_length as forests_size, forests_start as start_of_forests, records};
-ghost use Rattle.memory.specs.Solved.{PartsHold, Solved, written_table};
+ghost use Rattle.memory.specs.Solved.{CopiesTable, SlicesHold, Solved};
 
-use crate::forests::open_in;
+use crate::forests::open_copy;
 use crate::layout::{RECORDS_START, forests_length, forests_start};
 use nodes::{write_holders, write_records};
 use recipe::{Leaf, Place, name_count};
@@ -18,7 +15,7 @@ use recipe::{Leaf, Place, name_count};
 fn write_table<L: Leaf>(front: &mut [u32], places: &[Place], leaves: &[L])
     requires valid { Valid places.now leaves.now }
     requires room { start_of_forests (length places.now) ≤ length front.old }
-    ensures same { SameTables L.equates nat_eq (table_of places.now leaves.now) (written_table (length places.now) front.new) leaves.now (range_with_len 0 (length leaves.now)) }
+    ensures copied { CopiesTable L.equates places.now leaves.now front.new }
     ensures holders { HoldersWritten (length places.now) (records (length places.now) front.new) }
 {
     let size = places.len();
@@ -29,7 +26,7 @@ fn write_table<L: Leaf>(front: &mut [u32], places: &[Place], leaves: &[L])
 }
 
 // Writes the table, and makes its forests before any tell, twice.
-fn open_parts<L: Leaf>(
+fn open_slices<L: Leaf>(
     front: &mut [u32],
     first: &mut [u32],
     second: &mut [u32],
@@ -43,11 +40,11 @@ fn open_parts<L: Leaf>(
     requires room { start_of_forests (length places.now) ≤ length front.old }
     requires long { length first.old ≡ forests_size (length places.now) names }
     requires second_long { length second.old ≡ forests_size (length places.now) names }
-    ensures hold { PartsHold (length places.now) names [] front.new first.new second.new }
-    ensures same { SameTables L.equates nat_eq (table_of places.now leaves.now) (written_table (length places.now) front.new) leaves.now (range_with_len 0 (length leaves.now)) }
+    ensures hold { SlicesHold (length places.now) names [] front.new first.new second.new }
+    ensures copied { CopiesTable L.equates places.now leaves.now front.new }
 {
     write_table(front, places, leaves);
-    open_in(front, first, places.len(), names);
+    open_copy(front, first, places.len(), names);
     second.copy_from_slice(first);
 }
 
@@ -58,7 +55,7 @@ pub fn open_memory<L: Leaf>(memory: &mut [u32], places: &[Place], leaves: &[L]) 
     requires room { 0 < length places.now → needed places.now ≤ length memory.old }
     ensures names { result ≡ names_of places.now }
     ensures solved { Solved (length places.now) result [] memory.new }
-    ensures same { SameTables L.equates nat_eq (table_of places.now leaves.now) (written_table (length places.now) memory.new) leaves.now (range_with_len 0 (length leaves.now)) }
+    ensures copied { CopiesTable L.equates places.now leaves.now memory.new }
     ensures past { KeepsPast (length places.now) result memory.old memory.new }
 {
     let size = places.len();
@@ -69,6 +66,6 @@ pub fn open_memory<L: Leaf>(memory: &mut [u32], places: &[Place], leaves: &[L]) 
     let (front, forests) = memory.split_at_mut(forests_start(size));
     let (first, others) = forests.split_at_mut(forests_length(size, names));
     let (second, _) = others.split_at_mut(forests_length(size, names));
-    open_parts(front, first, second, places, leaves, names);
+    open_slices(front, first, second, places, leaves, names);
     names
 }

@@ -7,10 +7,10 @@ ghost use Rattle.recipe.specs.Marks.{refused_by};
 ghost use Rattle.recipe.specs.Tells.{Decided, Tells, tell_fault};
 ghost use Rattle.closure.specs.Decision.{WellFormed};
 ghost use Rattle.memory.specs.Layout.{KeepsPast, forests_length as forests_size, records, records_start, used};
-ghost use Rattle.memory.specs.Solved.{PartsHold, Solved, written_table};
+ghost use Rattle.memory.specs.Solved.{SlicesHold, Solved, written_table};
 
-use crate::forests::{enter_in, tell_in};
-use crate::layout::{RECORDS_START, forests_length, forests_start, marks_start};
+use crate::forests::{enter_copy, tell_copy};
+use crate::layout::{forests_length, forests_start, records_of};
 use nodes::depth_of;
 use recipe::Refusal;
 
@@ -28,7 +28,7 @@ fn write_pair(memory: &mut [u32], standing: usize, p: usize, q: usize)
 }
 
 // Enters a told pair in both copies of the forests, and says what the pairs come to with it; refused, both are as before.
-fn tell_parts(
+fn decide_slices(
     front: &mut [u32],
     first: &mut [u32],
     second: &mut [u32],
@@ -40,17 +40,17 @@ fn tell_parts(
 ) -> Result<(), Refusal>
     requires long { length first.old ≡ forests_size size names }
     requires second_long { length second.old ≡ forests_size size names }
-    requires hold { (told : List Pair) × (length told ≡ standing) × PartsHold size names told front.old first.old second.old }
+    requires hold { (told : List Pair) × (length told ≡ standing) × SlicesHold size names told front.old first.old second.old }
     requires few { standing < 512 }
     requires places { (p < size) × (q < size) }
-    ensures decided { (told : List Pair) → PartsHold size names told front.old first.old second.old → WellFormed (written_table size front.old) names (told ++ ((p, q) ∷ [])) → Decided nat_eq (written_table size front.old) (told ++ ((p, q) ∷ [])) result }
-    ensures hold { (told : List Pair) → length told ≡ standing → PartsHold size names told front.old first.old second.old → PartsHold size names (told ++ accepted_pair p q result) front.new first.new second.new }
+    ensures decided { (told : List Pair) → SlicesHold size names told front.old first.old second.old → WellFormed (written_table size front.old) names (told ++ ((p, q) ∷ [])) → Decided nat_eq (written_table size front.old) (told ++ ((p, q) ∷ [])) result }
+    ensures hold { (told : List Pair) → length told ≡ standing → SlicesHold size names told front.old first.old second.old → SlicesHold size names (told ++ accepted_pair p q result) front.new first.new second.new }
     ensures records { records size front.new ≡ records size front.old }
 {
-    let answer = tell_in(front, first, size, names, p, q);
+    let answer = tell_copy(front, first, size, names, p, q);
     if answer.is_ok() {
         write_pair(front, standing, p, q);
-        enter_in(front, second, size, names, p, q);
+        enter_copy(front, second, size, names, p, q);
     } else {
         first.copy_from_slice(second);
     }
@@ -58,7 +58,7 @@ fn tell_parts(
 }
 
 // Enters a told pair, and says what the pairs come to with it; refused, the memory holds what it held.
-fn tell_pair(
+fn decide_pair(
     memory: &mut [u32],
     size: usize,
     names: usize,
@@ -72,13 +72,13 @@ fn tell_pair(
     requires depths { depth (written_table size memory.old) p ≡ depth (written_table size memory.old) q }
     ensures decided { (told : List Pair) → length told ≡ standing → Solved size names told memory.old → Decided nat_eq (written_table size memory.old) (told ++ ((p, q) ∷ [])) result }
     ensures solved { (told : List Pair) → length told ≡ standing → Solved size names told memory.old → Solved size names (told ++ accepted_pair p q result) memory.new }
-    ensures table { written_table size memory.new ≡ written_table size memory.old }
+    ensures records { records size memory.new ≡ records size memory.old }
     ensures past { drop (used size names) memory.new ≡ drop (used size names) memory.old }
 {
     let (front, forests) = memory.split_at_mut(forests_start(size));
     let (first, others) = forests.split_at_mut(forests_length(size, names));
     let (second, _) = others.split_at_mut(forests_length(size, names));
-    tell_parts(front, first, second, size, names, standing, p, q)
+    decide_slices(front, first, second, size, names, standing, p, q)
 }
 
 // Why a tell is refused before what the pairs come to is asked, if it is.
@@ -98,7 +98,7 @@ fn test_tell(
     if q >= size {
         return Err(Refusal::NoSuchPlace { place: q });
     }
-    let words = &memory[RECORDS_START..marks_start(size)];
+    let words = records_of(memory, size);
     if depth_of(words, size, p) != depth_of(words, size, q) {
         return Err(Refusal::UnequalDepths {
             first: p,
@@ -111,9 +111,10 @@ fn test_tell(
     Ok(())
 }
 
-// The answer to telling that two places are equal, after some told pairs: accepted exactly where all of them have a filling
-// in common, and else the first cause. Accepted, the memory is solved for the pairs and the new one; refused, for the pairs
-// as before.
+// The answer to telling that two places are equal, after some told pairs. Refused are a place past the end, two places of
+// unequal depth, and a tell after 512; else it is accepted exactly where all pairs have a filling in common, and refused
+// with the first cause where not. Accepted, the memory is solved for the pairs and the new one; refused, for the pairs as
+// before.
 pub fn tell(
     memory: &mut [u32],
     size: usize,
@@ -125,9 +126,9 @@ pub fn tell(
     requires solved { (told : List Pair) × (length told ≡ standing) × Solved size names told memory.old }
     ensures told { (told : List Pair) → length told ≡ standing → Solved size names told memory.old → Tells nat_eq (written_table size memory.old) told p q result }
     ensures solved { (told : List Pair) → length told ≡ standing → Solved size names told memory.old → Solved size names (told ++ accepted_pair p q result) memory.new }
-    ensures table { written_table size memory.new ≡ written_table size memory.old }
+    ensures records { records size memory.new ≡ records size memory.old }
     ensures past { KeepsPast size names memory.old memory.new }
 {
     test_tell(memory, size, standing, p, q)?;
-    tell_pair(memory, size, names, standing, p, q)
+    decide_pair(memory, size, names, standing, p, q)
 }

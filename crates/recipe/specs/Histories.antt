@@ -1,5 +1,5 @@
 -- Lists of calls, and when the answers to them are right. Assumes nothing. (docs/RULES.md, "Histories")
-use Rattle.std.specs.Prelude.{◌≡◌, ℕ, Bool, cond, List, [], ◌∷◌, ◌++◌, map, Ok, Err, Result, nat_le}
+use Rattle.std.specs.Prelude.{◌≡◌, ℕ, Bool, cond, List, [], ◌∷◌, ◌++◌, map, is_ok, Ok, Err, Result, nat_le}
 use Rattle.recipe.specs.declared.labels.Finding.{Finding}
 use Rattle.recipe.specs.declared.refusals.Refusal.{Refusal}
 use Rattle.recipe.specs.declared.places.Place.{Place}
@@ -64,14 +64,14 @@ module _ {L : Type 0} (same : L → L → Bool) (T : Table L) (ls : List L) wher
   abbrev pub Right : List Entry → Type 0
   Right h = (before after : List Entry) (e : Entry) → h ≡ before ++ (e ∷ after) → RightAfter (accepted_pairs before) e
 
--- the table, if `check` asks for at most this many words, and else the empty one
-abbrev pub table_within : {L : Type 0} → ℕ → Table L → Result ℕ Refusal → Table L
-table_within words T (Ok n) = cond (nat_le n words) T empty_table
-table_within words T (Err e) = empty_table
+-- a table is opened in a memory of at least as many words as `check` asks for, and else refused: as `check` does, or since the memory is too short
+abbrev pub opening_answer : ℕ → Result ℕ Refusal → Result (Unit {0}) Refusal
+opening_answer words (Ok n) = cond (nat_le n words) (Ok tt) (Err Refusal.MemoryTooShort)
+opening_answer words (Err e) = Err e
 
--- the table of the sheet that is opened on a memory of some words
+-- the table of the sheet that is opened on a memory of some words: the given one, or the empty one where it is refused
 abbrev pub sheet_table : {L : Type 0} → List Place → List L → ℕ → Table L
-sheet_table places ls words = table_within words (table_of places ls) (checked places ls)
+sheet_table places ls words = cond (is_ok (opening_answer words (checked places ls))) (table_of places ls) empty_table
 
 -- what a sheet has to give for every list of calls: an answer to each of them, in order, and every answer right
 pub record RightRun {L : Type 0} (same : L → L → Bool) (places : List Place) (ls : List L) (words : ℕ) (calls : List Request) (h : List Entry) : Type 0 where

@@ -8,4 +8,4 @@ loop-k-preserved c =
     let so = c.loop-k.invariant in
     let told = told_by (take c.loop-k.k c.loop-k.tells) in
     answered_more so (omega (arith, so.long, c.loop-k-test.true)) (record { first = 0; second = 0; answer = Ok tt }) c.tell-answer.result c.counted-standing.result c.tell-answer.new.memory
-    (c.tell-answer.ensures.told told so.many so.solved) (c.tell-answer.ensures.solved told so.many so.solved) c.tell-answer.ensures.table c.tell-answer.ensures.past (c.counted-standing.ensures _ _)
+    (c.tell-answer.ensures.told told so.many so.solved) (c.tell-answer.ensures.solved told so.many so.solved) c.tell-answer.ensures.records c.tell-answer.ensures.past (c.counted-standing.ensures _ _)

@@ -10,7 +10,7 @@ returns g c =
         room = rw (sym (is_needed c.args.places.now c.args.leaves.now c.in_ok-needed.needed c.in_ok-needed.ensures.value)) c.if-memory-needed.false;
         counted = c.open_memory.ensures.names;
         solved = c.open_memory.ensures.solved;
-        alike = c.open_memory.ensures.same;
+        copied = c.open_memory.ensures.copied;
         past = c.open_memory.ensures.past;
       };
     }

@@ -4,7 +4,7 @@ use Rattle.recipe.specs.Sameness.{Sameness}
 use Rattle.recipe.specs.Tables.{table_of}
 use Rattle.closure.specs.OtherLeaves.{SameTables}
 use Rattle.memory.proofs.Opened.{empty_same, empty_solved, names_counted, names_few, opened_solved}
-use Rattle.memory.proofs.Solving.{parts_of}
+use Rattle.memory.proofs.Solving.{cut_of}
 use Rattle.memory.proofs.Whole.{keeps_past, past_is, table_is}
 use Rattle.memory.proofs.opening.open_memory.Goals as goal
 
@@ -17,8 +17,8 @@ returns-then-size-eq0-clause-solved g c =
     } in
     empty_solved laws c.requires.valid c.name_count-names.result (names_counted c.args.places.now c.name_count-names.ensures.value) c.args.memory.now c.if-size-eq0.true
 
-pub returns-then-size-eq0-clause-same : goal.returns-then-size-eq0-clause-same
-returns-then-size-eq0-clause-same g c =
+pub returns-then-size-eq0-clause-copied : goal.returns-then-size-eq0-clause-copied
+returns-then-size-eq0-clause-copied g c =
     let laws : Sameness g.L.Leaf.equates = record {
       reflexive = g.met.L.Leaf.reflexive;
       symmetric = g.met.L.Leaf.symmetric;
@@ -27,14 +27,14 @@ returns-then-size-eq0-clause-same g c =
     empty_same laws c.args.places.now c.args.leaves.now c.args.memory.now c.if-size-eq0.true
 
 pub returns-clause-solved : goal.returns-clause-solved
-returns-clause-solved g c = opened_solved (length c.args.places.now) c.name_count-names.result (parts_of refl refl refl (c.open_parts.auto.front ∙ c.split_at_mut-front.ensures.front_len ∙ c.forests_start.ensures) (c.open_parts.auto.first ∙ c.split_at_mut-first.ensures.front_len ∙ c.forests_length.ensures) (c.open_parts.auto.second ∙ c.split_at_mut-second.ensures.front_len ∙ c.forests_length-2.ensures)) c.open_parts.ensures.hold
+returns-clause-solved g c = opened_solved (length c.args.places.now) c.name_count-names.result (cut_of refl refl refl (c.open_slices.auto.front ∙ c.split_at_mut-front.ensures.front_len ∙ c.forests_start.ensures) (c.open_slices.auto.first ∙ c.split_at_mut-first.ensures.front_len ∙ c.forests_length.ensures) (c.open_slices.auto.second ∙ c.split_at_mut-second.ensures.front_len ∙ c.forests_length-2.ensures)) c.open_slices.ensures.hold
 
-pub returns-clause-same : goal.returns-clause-same
-returns-clause-same g c =
-    subst (λ T. SameTables g.L.Leaf.equates nat_eq (table_of c.args.places.now c.args.leaves.now) T c.args.leaves.now (range_with_len 0 (length c.args.leaves.now))) (sym (table_is (parts_of refl refl refl (c.open_parts.auto.front ∙ c.split_at_mut-front.ensures.front_len ∙ c.forests_start.ensures) (c.open_parts.auto.first ∙ c.split_at_mut-first.ensures.front_len ∙ c.forests_length.ensures) (c.open_parts.auto.second ∙ c.split_at_mut-second.ensures.front_len ∙ c.forests_length-2.ensures)))) c.open_parts.ensures.same
+pub returns-clause-copied : goal.returns-clause-copied
+returns-clause-copied g c =
+    subst (λ T. SameTables g.L.Leaf.equates nat_eq (table_of c.args.places.now c.args.leaves.now) T c.args.leaves.now (range_with_len 0 (length c.args.leaves.now))) (sym (table_is (cut_of refl refl refl (c.open_slices.auto.front ∙ c.split_at_mut-front.ensures.front_len ∙ c.forests_start.ensures) (c.open_slices.auto.first ∙ c.split_at_mut-first.ensures.front_len ∙ c.forests_length.ensures) (c.open_slices.auto.second ∙ c.split_at_mut-second.ensures.front_len ∙ c.forests_length-2.ensures)))) c.open_slices.ensures.copied
 
 pub returns-clause-past : goal.returns-clause-past
-returns-clause-past g c = keeps_past (length c.args.places.now) c.name_count-names.result c.args.memory.now _ (search rules) (past_is (parts_of refl refl refl (c.open_parts.auto.front ∙ c.split_at_mut-front.ensures.front_len ∙ c.forests_start.ensures) (c.open_parts.auto.first ∙ c.split_at_mut-first.ensures.front_len ∙ c.forests_length.ensures) (c.open_parts.auto.second ∙ c.split_at_mut-second.ensures.front_len ∙ c.forests_length-2.ensures)) ∙ sym (past_is (parts_of c.split_at_mut-front.ensures.value c.split_at_mut-first.ensures.value c.split_at_mut-second.ensures.value (c.split_at_mut-front.ensures.front_len ∙ c.forests_start.ensures) (c.split_at_mut-first.ensures.front_len ∙ c.forests_length.ensures) (c.split_at_mut-second.ensures.front_len ∙ c.forests_length-2.ensures))))
+returns-clause-past g c = keeps_past (length c.args.places.now) c.name_count-names.result c.args.memory.now _ (search rules) (past_is (cut_of refl refl refl (c.open_slices.auto.front ∙ c.split_at_mut-front.ensures.front_len ∙ c.forests_start.ensures) (c.open_slices.auto.first ∙ c.split_at_mut-first.ensures.front_len ∙ c.forests_length.ensures) (c.open_slices.auto.second ∙ c.split_at_mut-second.ensures.front_len ∙ c.forests_length-2.ensures)) ∙ sym (past_is (cut_of c.split_at_mut-front.ensures.value c.split_at_mut-first.ensures.value c.split_at_mut-second.ensures.value (c.split_at_mut-front.ensures.front_len ∙ c.forests_start.ensures) (c.split_at_mut-first.ensures.front_len ∙ c.forests_length.ensures) (c.split_at_mut-second.ensures.front_len ∙ c.forests_length-2.ensures))))
 
 pub forests_length-requires-clause-few : goal.forests_length-requires-clause-few
 forests_length-requires-clause-few g c = rw c.name_count-names.ensures.value (names_few c.requires.valid)
@@ -42,5 +42,5 @@ forests_length-requires-clause-few g c = rw c.name_count-names.ensures.value (na
 pub forests_length-requires-2-clause-few : goal.forests_length-requires-2-clause-few
 forests_length-requires-2-clause-few g c = rw c.name_count-names.ensures.value (names_few c.requires.valid)
 
-pub open_parts-requires-clause-few : goal.open_parts-requires-clause-few
-open_parts-requires-clause-few g c = rw c.name_count-names.ensures.value (names_few c.requires.valid)
+pub open_slices-requires-clause-few : goal.open_slices-requires-clause-few
+open_slices-requires-clause-few g c = rw c.name_count-names.ensures.value (names_few c.requires.valid)
