@@ -1,0 +1,5 @@
+pub mod Covering
+pub mod Pieces
+pub mod Reading
+pub mod Tokens
+pub mod Words
