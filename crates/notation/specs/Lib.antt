@@ -1,0 +1,13 @@
+pub mod Answering
+pub mod LentLists
+pub mod Fitting
+pub mod Grammar
+pub mod Machine
+pub mod Progress
+pub mod Reading
+pub mod Sweeping
+pub mod Tables
+pub mod Taking
+pub mod Threading
+pub mod ValidTables
+pub mod Verdict

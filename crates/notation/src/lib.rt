@@ -1,0 +1,17 @@
+// Recipes read from a text: the grammar, the refusals, and the table that a text spells.
+#![tactic(auto)]
+
+mod atoms;
+mod counts;
+mod leaf_words;
+mod lent_lists;
+mod numbers;
+mod pieces;
+mod reading;
+mod recipes;
+mod tables;
+mod valid_tables;
+
+pub use counts::Counts;
+pub use reading::read_recipes;
+pub use valid_tables::read_tables_are_valid;

@@ -1,0 +1,45 @@
+// The next piece of a text, where one has to come.
+ghost use Rattle.std.specs.Prelude.{◌≡◌, ◌<◌, ◌≤◌, IfOk, length};
+ghost use Rattle.notation.specs.Machine.{wrong};
+ghost use Rattle.notation.specs.Taking.{TookPieceOrEnds, TookClassOrNone};
+
+use recipe::Refusal;
+use tokens::{Class, Piece, Words};
+
+// The refusal of a piece that cannot stand where it does.
+pub(crate) fn wrong(piece: Piece) -> Refusal
+    ensures { result ≡ wrong piece.class piece.start }
+{
+    let offset = piece.start;
+    if piece.class == Class::Unknown {
+        Refusal::UnknownWord { offset }
+    } else {
+        Refusal::Misplaced { offset }
+    }
+}
+
+// The next piece, where the text must not end.
+pub(crate) fn next_piece(text: &[u8], words: &mut Words) -> Result<Piece, Refusal>
+    requires { words.old.text ≡ text.now }
+    ensures text { words.new.text ≡ text.now }
+    ensures fewer { IfOk result (λ piece. length words.new.left < length words.old.left) }
+    ensures taken { TookPieceOrEnds text.now words.old.left words.new.left result }
+{
+    words
+        .next()
+        .ok_or(Refusal::Unfinished { offset: text.len() })
+}
+
+// The next piece, where one of the class must come.
+pub(crate) fn expect(class: Class, text: &[u8], words: &mut Words) -> Result<Piece, Refusal>
+    requires { words.old.text ≡ text.now }
+    ensures text { words.new.text ≡ text.now }
+    ensures fewer { IfOk result (λ piece. length words.new.left < length words.old.left) }
+    ensures taken { TookClassOrNone class text.now words.old.left words.new.left result }
+{
+    let piece = next_piece(text, words)?;
+    if piece.class != class {
+        return Err(wrong(piece));
+    }
+    Ok(piece)
+}
