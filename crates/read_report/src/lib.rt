@@ -1,0 +1,9 @@
+// How a text is read, as a report that a person can read.
+#![tactic(auto)]
+
+mod laws;
+mod lines;
+mod report;
+
+pub use laws::{reports_are_unique, spellings_are_printed};
+pub use report::report_on;
