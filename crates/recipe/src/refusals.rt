@@ -38,13 +38,13 @@ pub enum Refusal {
     UnknownStep { index: usize },
     // a hole at or under a place that has to be finished
     HoleInside { place: usize },
-    // a word of no class, or an apostrophe before a parenthesis that is no nil
+    // a word of no class, or a lone apostrophe directly before `(` that is no nil
     UnknownWord { offset: usize },
     // a word or a parenthesis that cannot stand there
     Misplaced { offset: usize },
     // the text ends inside a list
     Unfinished { offset: usize },
-    // no list has room for what is read, or lists are nested too deep
+    // a list that is to be filled is full, or lists are nested too deep
     NoRoom { offset: usize },
     // the leaf kind does not read the word
     UnreadLeaf { offset: usize },
