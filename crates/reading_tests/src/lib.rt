@@ -2,6 +2,8 @@
 
 // How texts are read, as tables of texts with what is reported of them or left in the lists. It has tests only.
 #[cfg(test)]
+mod examples;
+#[cfg(test)]
 mod limits;
 #[cfg(test)]
 mod lists;
