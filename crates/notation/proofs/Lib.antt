@@ -19,6 +19,7 @@ pub mod Shorts
 pub mod Spelled
 pub mod Staying
 pub mod Sweeps
+pub mod Texts
 pub mod Threaded
 pub mod TokensShort
 pub mod Turned

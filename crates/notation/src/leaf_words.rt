@@ -9,11 +9,10 @@ use recipe::Leaf;
 use tokens::{Class, Piece, Words};
 
 // The next leaf word, and the reader then stands after it.
-fn next_leaf_word(text: &[u8], words: &mut Words) -> Option<Piece>
-    requires { words.old.text ≡ text.now }
-    ensures text { words.new.text ≡ text.now }
+fn next_leaf_word(words: &mut Words) -> Option<Piece>
+    ensures text { words.new.text ≡ words.old.text }
     ensures fewer { IfSome result (λ piece. length words.new.left < length words.old.left) }
-    ensures next { NextLeafOrNone text.now words.old.left words.new.left result }
+    ensures next { NextLeafOrNone words.old.text words.old.left words.new.left result }
 {
     while let Some(piece) = words.next() {
         if piece.class == Class::Leaf {
@@ -28,7 +27,7 @@ pub(crate) fn first_unread<L: Leaf>(text: &[u8]) -> Option<usize>
     ensures { AllReadOrUnread L.spells (tokens text.now) result }
 {
     let mut words = Words::new(text);
-    while let Some(piece) = next_leaf_word(text, &mut words) {
+    while let Some(piece) = next_leaf_word(&mut words) {
         match L::read(&text[piece.start..piece.end]) {
             Some(_) => {}
             None => return Some(piece.start),
@@ -43,7 +42,7 @@ pub(crate) fn write_leaves<L: Leaf>(text: &[u8], leaves: &mut [L])
 {
     let mut words = Words::new(text);
     for leaf in leaves.iter_mut() {
-        let Some(piece) = next_leaf_word(text, &mut words) else {
+        let Some(piece) = next_leaf_word(&mut words) else {
             return;
         };
         match L::read(&text[piece.start..piece.end]) {

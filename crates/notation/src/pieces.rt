@@ -19,25 +19,23 @@ pub(crate) fn wrong(piece: Piece) -> Refusal
 }
 
 // The next piece, where the text must not end.
-pub(crate) fn next_piece(text: &[u8], words: &mut Words) -> Result<Piece, Refusal>
-    requires { words.old.text ≡ text.now }
-    ensures text { words.new.text ≡ text.now }
+pub(crate) fn next_piece(words: &mut Words) -> Result<Piece, Refusal>
+    ensures text { words.new.text ≡ words.old.text }
     ensures fewer { IfOk result (λ piece. length words.new.left < length words.old.left) }
-    ensures taken { TookPieceOrEnds text.now words.old.left words.new.left result }
+    ensures taken { TookPieceOrEnds words.old.text words.old.left words.new.left result }
 {
-    words
-        .next()
-        .ok_or(Refusal::Unfinished { offset: text.len() })
+    words.next().ok_or(Refusal::Unfinished {
+        offset: words.text().len(),
+    })
 }
 
 // The next piece, where one of the class must come.
-pub(crate) fn expect(class: Class, text: &[u8], words: &mut Words) -> Result<Piece, Refusal>
-    requires { words.old.text ≡ text.now }
-    ensures text { words.new.text ≡ text.now }
+pub(crate) fn expect(class: Class, words: &mut Words) -> Result<Piece, Refusal>
+    ensures text { words.new.text ≡ words.old.text }
     ensures fewer { IfOk result (λ piece. length words.new.left < length words.old.left) }
-    ensures taken { TookClassOrNone class text.now words.old.left words.new.left result }
+    ensures taken { TookClassOrNone class words.old.text words.old.left words.new.left result }
 {
-    let piece = next_piece(text, words)?;
+    let piece = next_piece(words)?;
     if piece.class != class {
         return Err(wrong(piece));
     }

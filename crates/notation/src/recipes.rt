@@ -15,18 +15,17 @@ use tokens::{Class, Piece, Words};
 const DEEPEST: usize = 128;
 
 // The number of the name in a binder list, `(` and a name and `)`.
-fn binder(text: &[u8], words: &mut Words, lists: &mut LentLists) -> Result<u32, Refusal>
-    requires text { words.old.text ≡ text.now }
+fn binder(words: &mut Words, lists: &mut LentLists) -> Result<u32, Refusal>
     requires sound { Sound lists.old }
-    ensures text { words.new.text ≡ text.now }
+    ensures text { words.new.text ≡ words.old.text }
     ensures fewer { IfOk result (λ n. length words.new.left < length words.old.left) }
     ensures stays { Stays lists.old lists.new }
-    ensures taken { (most : Room) (used : Used) (d : ℕ) → d ≤ 128 → Stands most used lists.old → AllShort words.old.left → TookBinderOrNone most (length text.now) d used words.old.left words.new.left lists.old.places.now lists.new result }
+    ensures taken { (most : Room) (used : Used) (d : ℕ) → d ≤ 128 → Stands most used lists.old → AllShort words.old.left → TookBinderOrNone most (length words.old.text) d used words.old.left words.new.left lists.old.places.now lists.new result }
 {
-    expect(Class::Open, text, words)?;
-    let name = expect(Class::Name, text, words)?;
-    let number = lists.name(name.start, &text[name.start..name.end])?;
-    expect(Class::Close, text, words)?;
+    expect(Class::Open, words)?;
+    let name = expect(Class::Name, words)?;
+    let number = lists.name(name.start, &words.text()[name.start..name.end])?;
+    expect(Class::Close, words)?;
     Ok(number)
 }
 
@@ -34,19 +33,17 @@ fn binder(text: &[u8], words: &mut Words, lists: &mut LentLists) -> Result<u32, 
 #[cycle(recipes)]
 fn list(
     opening: Piece,
-    text: &[u8],
     words: &mut Words,
     lists: &mut LentLists,
     depth: usize,
 ) -> Result<u32, Refusal>
     requires class { opening.class ≡ Class.Open }
-    requires text { words.old.text ≡ text.now }
     requires deep { depth ≤ 128 }
     requires sound { Sound lists.old }
-    ensures text { words.new.text ≡ text.now }
+    ensures text { words.new.text ≡ words.old.text }
     ensures fewer { IfOk result (λ n. length words.new.left ≤ length words.old.left) }
     ensures stays { Stays lists.old lists.new }
-    ensures taken { TakesRecipe text.now depth opening words.old.left words.new.left lists.old lists.new result }
+    ensures taken { TakesRecipe words.old.text depth opening words.old.left words.new.left lists.old lists.new result }
 {
     if depth == DEEPEST {
         return Err(Refusal::NoRoom {
@@ -54,19 +51,19 @@ fn list(
         });
     }
     let place = lists.take_place(opening.start)?;
-    let head = next_piece(text, words)?;
+    let head = next_piece(words)?;
     if head.class == Class::Lambda {
-        let name = binder(text, words, lists)?;
-        let body = next_piece(text, words)?;
-        let inside = recipe(body, text, words, lists, depth + 1)?;
-        expect(Class::Close, text, words)?;
+        let name = binder(words, lists)?;
+        let body = next_piece(words)?;
+        let inside = recipe(body, words, lists, depth + 1)?;
+        expect(Class::Close, words)?;
         lists.write(place, record_of(Kind::Bind, name, inside));
         return Ok(place);
     }
-    let left = recipe(head, text, words, lists, depth + 1)?;
-    let second = next_piece(text, words)?;
-    let right = recipe(second, text, words, lists, depth + 1)?;
-    expect(Class::Close, text, words)?;
+    let left = recipe(head, words, lists, depth + 1)?;
+    let second = next_piece(words)?;
+    let right = recipe(second, words, lists, depth + 1)?;
+    expect(Class::Close, words)?;
     lists.write(place, record_of(Kind::Call, left, right));
     Ok(place)
 }
@@ -75,24 +72,22 @@ fn list(
 #[cycle(recipes)]
 pub(crate) fn recipe(
     first: Piece,
-    text: &[u8],
     words: &mut Words,
     lists: &mut LentLists,
     depth: usize,
 ) -> Result<u32, Refusal>
     requires some { first.start ≤ first.end }
-    requires inside { first.end ≤ length text.now }
-    requires text { words.old.text ≡ text.now }
+    requires inside { first.end ≤ length words.old.text }
     requires deep { depth ≤ 128 }
     requires sound { Sound lists.old }
-    ensures text { words.new.text ≡ text.now }
+    ensures text { words.new.text ≡ words.old.text }
     ensures fewer { IfOk result (λ n. length words.new.left ≤ length words.old.left) }
     ensures stays { Stays lists.old lists.new }
-    ensures taken { TakesRecipe text.now depth first words.old.left words.new.left lists.old lists.new result }
+    ensures taken { TakesRecipe words.old.text depth first words.old.left words.new.left lists.old lists.new result }
 {
     if first.class == Class::Open {
-        list(first, text, words, lists, depth)
+        list(first, words, lists, depth)
     } else {
-        atom(first, text, lists)
+        atom(first, words.text(), lists)
     }
 }

@@ -20,7 +20,7 @@ fn take_recipes(text: &[u8], lists: &mut LentLists) -> Result<Counts, Refusal>
 {
     let mut words = Words::new(text);
     while let Some(first) = words.next() {
-        recipe(first, text, &mut words, lists, 0)?;
+        recipe(first, &mut words, lists, 0)?;
     }
     Ok(lists.counts)
 }

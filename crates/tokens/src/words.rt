@@ -42,6 +42,13 @@ impl<'t> Words<'t> {
         Words { text, at: 0 }
     }
 
+    // The whole text.
+    pub fn text(&self) -> &'t [u8]
+        ensures { result.now ≡ self.now.text }
+    {
+        self.text
+    }
+
     // The first token that is left, and the reader then stands after it.
     pub fn next(&mut self) -> Option<Piece>
         ensures token { MatchOption result (self.old.left ≡ []) (λ piece. self.old.left ≡ token_of self.old.text piece ∷ self.new.left) }

@@ -5,7 +5,7 @@ use Rattle.notation.proofs.leaf_words.next_leaf_word.Given as goal
 abbrev pub invariant-loop-piece : goal.invariant-loop-piece
 invariant-loop-piece l =
     record {
-      text : l.words.text ≡ l.text;
+      text : l.words.text ≡ l.initial.words.text;
       fewer : length l.words.left ≤ length l.initial.words.left;
       skipped : Skipped l.initial.words.left l.words.left;
     }
