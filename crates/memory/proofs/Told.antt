@@ -42,7 +42,7 @@ module _ {size m : ℕ} {told : List Pair} {f a b : List ℕ} (hold : SlicesHold
   first_words : (n : ℕ) → n ≤ marks_start size → take n g ≡ take n f
   first_words n low = sym (take-take n (marks_start size) g low) ∙ ap (take n) kept ∙ take-take n (marks_start size) f low
 
-  -- nothing told: the second forests are those that hold
+  -- nothing told: the second copy is the one that holds
   pub as_before : length told ≤ 512 → SlicesHold size m told g b b
   as_before few =
       let same = records_kept size f g hold.table.room long kept in

@@ -1,4 +1,4 @@
--- How many nodes of the first forests are joined under others. Assumes nothing. (docs/RULES.md, "The memory")
+-- How many nodes of the first copy of the forests are joined under others. Assumes nothing. (docs/RULES.md, "The memory")
 use Rattle.std.specs.Prelude.{ℕ, zero, suc, ◌+◌, ◌/◌, ◌&&◌, Bool, List, length, cond, nat_eq, nat_le, nat_lt}
 use Rattle.forest.specs.Rows.{parent}
 use Rattle.memory.specs.Layout.{first_copy, forests_length, forests_start, names_rows, places_rows}
@@ -16,7 +16,7 @@ joined_below (suc n) rows = joined_below n rows + joins_of rows n
 abbrev pub joined_among : List ℕ → ℕ
 joined_among rows = joined_below (length rows / 4) rows
 
--- there is a place, no more places and names than a table has, and room for the first forests
+-- there is a place, no more places and names than a table has, and room for the first copy of the forests
 abbrev pub has_forests : ℕ → ℕ → List ℕ → Bool
 has_forests size m ws = nat_lt 0 size && nat_le size 512 && nat_le m 64 && nat_le (forests_start size + forests_length size m) (length ws)
 

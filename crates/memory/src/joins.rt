@@ -18,7 +18,7 @@ fn joined_among(rows: &[u32]) -> usize
     joined
 }
 
-// Whether a memory has room for the first forests of a table of some places.
+// Whether a memory has room for the first copy of the forests of a table of some places.
 fn has_forests(memory: &[u32], size: usize, names: usize) -> bool
     ensures { result ≡ has_forests size names memory.now }
 {
@@ -28,7 +28,7 @@ fn has_forests(memory: &[u32], size: usize, names: usize) -> bool
         && forests_start(size) + forests_length(size, names) <= memory.len()
 }
 
-// How many nodes of the first forests are joined under others: each joined one class with another. Where the memory has no
+// How many nodes of the first copy of the forests are joined under others: each joined one class with another. Where the memory has no
 // forests of so many places and names, or the table is without places, it is 0.
 pub fn count_joins(memory: &[u32], size: usize, names: usize) -> usize
     ensures { result ≡ joined_nodes size names memory.now }
