@@ -9,7 +9,7 @@ use crate::shapes::Shape;
 use crate::table::Table;
 use anyhow::bail;
 use leaves::Symbol;
-use memory::{answer_tells, count_joins};
+use sheet::answer_tells;
 use recipe::{check, name_count};
 
 const NO_LEAVES: [Symbol; 0] = [];
@@ -29,9 +29,8 @@ fn print_told<R: Print + AllocGlobal>(
     let names = name_count(&places);
     let accepted = tells.iter().filter(|tell| tell.answer.is_ok()).count();
     let refused = tells.iter().filter(|tell| tell.answer.is_err()).count();
-    let joins = count_joins(&memory, size, names);
     println!(rt;
-        "{shape}: places {size}, names {names}, tells accepted {accepted}, refused {refused}, joins {joins}"
+        "{shape}: places {size}, names {names}, tells accepted {accepted}, refused {refused}"
     )?;
     Ok(())
 }

@@ -1,5 +1,5 @@
 // A table that is built place by place, with the pairs that it is told.
-use memory::Tell;
+use sheet::Tell;
 use recipe::{Kind, Place, Refusal};
 use std::alloc::{AllocError, Global};
 

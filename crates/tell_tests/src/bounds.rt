@@ -1,7 +1,7 @@
 // Tells at the bounds: of memory, of places, of depths, and of the number of tells.
 use crate::tables::{answered, answered_in, place, tell};
 use leaves::Symbol;
-use memory::Tell;
+use sheet::Tell;
 use recipe::Refusal::{
     Clash, MemoryTooShort, NamesDisagree, NoSuchPlace, TooManyTells, UnequalDepths, UnknownKind,
 };

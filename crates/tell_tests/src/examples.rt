@@ -1,6 +1,6 @@
 // The worked examples.
 use crate::tables::answered;
-use memory::Tell;
+use sheet::Tell;
 use specimens::{Call, specimens};
 use std::alloc::{AllocError, Global};
 use std::test::Fail;

@@ -1,12 +1,10 @@
 #![tactic(auto)]
 
-// The answers to told pairs, as tables: the worked examples, recipes of all forms, the bounds, what a refused tell leaves, and how many nodes are joined. It has tests only.
+// The answers to told pairs, as tables: the worked examples, recipes of all forms, the bounds, and what a refused tell leaves. It has tests only.
 #[cfg(test)]
 mod bounds;
 #[cfg(test)]
 mod examples;
-#[cfg(test)]
-mod joins;
 #[cfg(test)]
 mod rates;
 #[cfg(test)]

@@ -1,7 +1,7 @@
 // Recipes whose leaves are rates: two rates are one leaf where they stand for one number.
 use crate::tables::{Told, answered, leaves_of, place, tell};
 use leaves::Rate;
-use memory::Tell;
+use sheet::Tell;
 use recipe::Refusal::Clash;
 use recipe::{Kind, Place};
 use std::test::Fail;

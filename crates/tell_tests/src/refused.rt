@@ -1,7 +1,7 @@
 // What a refused tell leaves: nothing.
 use crate::tables::{Told, answered, leaves_of, place, tell};
 use leaves::Symbol;
-use memory::Tell;
+use sheet::Tell;
 use recipe::Refusal::{Clash, Cyclic, NamesDisagree, NoSuchPlace, UnequalDepths};
 use recipe::{Kind, Place};
 use std::alloc::{AllocError, Global};

@@ -1,7 +1,7 @@
 // Recipes whose leaves are symbols: what holes, binders and names come to.
 use crate::tables::{Told, answered, leaves_of, place, tell};
 use leaves::Symbol;
-use memory::Tell;
+use sheet::Tell;
 use recipe::Refusal::{Clash, Cyclic, NamesDisagree};
 use recipe::{Kind, Place};
 use std::test::Fail;

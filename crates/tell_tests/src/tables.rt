@@ -1,5 +1,5 @@
 // Tables of recipes with told pairs, and the answers that the library gives to these.
-use memory::{Tell, answer_tells};
+use sheet::{Tell, answer_tells};
 use recipe::{Leaf, Place, Refusal, check};
 use std::alloc::{AllocError, Global};
 

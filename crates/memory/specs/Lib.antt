@@ -1,4 +1,0 @@
-pub mod Answering
-pub mod Joins
-pub mod Layout
-pub mod Solved
