@@ -1,18 +1,16 @@
 -- Equal names of two scopes: a name is equal to one name at most, and whether to one is decided; the names of scopes are binders. Assumes nothing.
-use Rattle.std.proofs.Common.{◌≡◌, ℕ, zero, suc, ◌<◌, eqb, ◌⊎◌, List, [], ◌∷◌, get_or, Some, None, Option, sym, refl, ap, ◌∙◌, subst, inl, inr, arith}
-use Rattle.std.proofs.lemmas.Bool.{cases_eq, eqb-true}
+use Rattle.std.proofs.Common.{◌≡◌, ℕ, zero, suc, ◌<◌, ◌⊎◌, List, [], ◌∷◌, get_or, Some, None, Option, sym, refl, ap, ◌∙◌, subst, inl, inr, arith}
+use Rattle.std.proofs.lemmas.Bool.{cases_eq}
 use Rattle.std.proofs.lemmas.Bool.Decides.{nat_tests}
-use Rattle.std.proofs.lemmas.List.{get_or_default}
 use Rattle.std.proofs.lemmas.Option.{none-some}
 use Rattle.recipe.specs.Common.{In}
 use Rattle.recipe.specs.Fillings.{Pair}
 use Rattle.recipe.specs.Recipes.{Part}
-use Rattle.recipe.specs.Numbering.{number_of, Lowest}
 use Rattle.recipe.specs.Scopes.{Scope, NameEqual, extended, inner}
 use Rattle.recipe.specs.Tables.{Table, Holder, holder, parts, scope, scope_under, scope_within}
 use Rattle.recipe.proofs.EqualScopes.{name_step, name_symmetric, name_transitive, name_without}
 use Rattle.recipe.proofs.Holders.{holder_tells}
-use Rattle.recipe.proofs.Numbers.{number_lowest}
+use Rattle.recipe.proofs.InnerNumbers.{first_at}
 use Rattle.closure.specs.Decision.{WellFormed}
 use Rattle.closure.proofs.Known.{Known, known_same, known_option}
 
@@ -28,12 +26,6 @@ name_once Φ Ψ x y z e f = one_in_scope Ψ y z (name_transitive Ψ Φ Ψ y x z 
 pub name_once_back : (Φ Ψ : Scope) (x y z : ℕ) → NameEqual Φ x Ψ z → NameEqual Φ y Ψ z → x ≡ y
 name_once_back Φ Ψ x y z e f = one_in_scope Φ x y (name_transitive Φ Ψ Φ x z y e (name_symmetric Φ Ψ y z f))
 
--- a name with an inner number stands at that position
-name_there : (Ψ : Scope) (k y : ℕ) → inner Ψ y ≡ Some k → get_or Ψ k 0 ≡ y
-name_there Ψ k y e =
-    let low : Lowest eqb Ψ y (Some k) = rw e at (number_lowest eqb Ψ y) in
-    get_or_default Ψ k 0 y low.0 ∙ eqb-true _ _ low.1
-
 -- whether there is one can be decided
 pub equal_name_or_none : (Φ Ψ : Scope) (x : ℕ) → ((y : ℕ) × NameEqual Φ x Ψ y) ⊎ ((y : ℕ) → NameEqual Φ x Ψ y → ⊥)
 equal_name_or_none Φ Ψ x = by_number (inner Φ x) refl
@@ -47,7 +39,7 @@ equal_name_or_none Φ Ψ x = by_number (inner Φ x) refl
     by_number (Some k) e =
         elim (known_option (inner Ψ (get_or Ψ k 0)) (Some k)) [
           | inl f ↦ inl (get_or Ψ k 0, inr (k, e, f))
-          | inr n ↦ inr (λ y h. let there : inner Ψ y ≡ Some k = grind arith in n (ap (inner Ψ) (name_there Ψ k y there) ∙ there))
+          | inr n ↦ inr (λ y h. let there : inner Ψ y ≡ Some k = grind arith in n (ap (inner Ψ) (first_at Ψ y k there).there ∙ there))
         ]
 
 pub equal_name_or_none_back : (Φ Ψ : Scope) (y : ℕ) → ((x : ℕ) × NameEqual Φ x Ψ y) ⊎ ((x : ℕ) → NameEqual Φ x Ψ y → ⊥)
@@ -63,14 +55,14 @@ equal_decided Φ Ψ x y = elim (equal_name_or_none Φ Ψ x) [
 
 -- a name of a scope with a part's binder is this binder, or a name of the scope above
 inner_extended : (o : Option ℕ) (Φ : Scope) (x k : ℕ) → inner (extended o Φ) x ≡ Some k → (o ≡ Some x) ⊎ ((j : ℕ) × (inner Φ x ≡ Some j))
-unfolding number_of
+unfolding inner
 inner_extended None Φ x k e = inr (k, e)
 inner_extended (Some a) Φ x k e = grind (arith, nat_tests)
 
 module _ {L : Type 0} (T : Table L) (m : ℕ) (few : (p a : ℕ) (y : Part ℕ) → In y (parts (T.form p)) → y.under ≡ Some a → a < m) where
   -- the names of a scope are binders
   within_low : (n p x k : ℕ) → inner (scope_within T n p) x ≡ Some k → x < m
-  unfolding scope_within number_of
+  unfolding scope_within inner
   within_low zero p x k e = absurd (none-some k e)
   within_low (suc n) p x k e = held (holder T p) refl e (λ q j f. within_low n q x j f)
     where

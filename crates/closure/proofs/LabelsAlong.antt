@@ -7,7 +7,6 @@ use Rattle.recipe.specs.Common.{In}
 use Rattle.recipe.specs.Fillings.{Filling, layer}
 use Rattle.recipe.specs.Labels.{part_at, name_label, label_of, at_part, label_below, label_at}
 use Rattle.recipe.specs.Links.{kind_of}
-use Rattle.recipe.specs.Numbering.{number_of}
 use Rattle.recipe.specs.Recipes.{Recipe, Part, left, right, inside, recipe_parts}
 use Rattle.recipe.specs.Scopes.{Scope, extended, inner}
 use Rattle.recipe.specs.Tables.{Form}
@@ -69,7 +68,7 @@ longer a Φ = omega (arith, length-append Φ (a ∷ []))
 
 -- one binder more, outside of the others
 name_outer : (a x : ℕ) (Φ : Scope) → name_label (Φ ++ (a ∷ [])) x (inner (Φ ++ (a ∷ [])) x) ≡ label_above a (name_label Φ x (inner Φ x))
-unfolding number_of
+unfolding inner
 name_outer a x [] = label_inner a x [] (eqb a x) None ∙ label_outermost a x (eqb a x) refl
 name_outer a x (b ∷ Φ) =
     rw (label_inner b x (Φ ++ (a ∷ [])) (eqb b x) (inner (Φ ++ (a ∷ [])) x), label_inner b x Φ (eqb b x) (inner Φ x), longer a Φ) (label_pushed a (eqb b x) (length Φ) _ _ (name_outer a x Φ))
@@ -139,7 +138,7 @@ module _ {L : Type 0} (number : L → Option ℕ) where
 
   -- a free name is found
   pub free_found : {t : Recipe L} {path : List ℕ} {x : ℕ} → FreeAt t path x → found_at t path ≡ named x
-  unfolding number_of
+  unfolding inner
   free_found (FreeAt.here {x = x}) = found_here (Recipe.name x)
   free_found (FreeAt.left {t = t} {u = u} {path = path} f) = found_part (Recipe.call t u) (left t) path (inl refl) ∙ free_found f
   free_found (FreeAt.right {t = t} {u = u} {path = path} f) = found_part (Recipe.call t u) (right u) path (inr (inl refl)) ∙ free_found f
@@ -148,7 +147,7 @@ module _ {L : Type 0} (number : L → Option ℕ) where
 
   -- and a name that is found is free there
   free_here : (t : Recipe L) (x : ℕ) → Finding.Label (label_of number [] t) ≡ named x → FreeAt t [] x
-  unfolding number_of
+  unfolding inner
   free_here (Recipe.name y) x e = let one : y ≡ x = cc in rw one FreeAt.here
   free_here t x e = absurd (cc)
 
@@ -178,7 +177,7 @@ module _ {L : Type 0} (number : L → Option ℕ) where
     call_turned R t u v w path false false one two = Turned.other (λ x e. cc)
 
     pub related_found : {R : Relation} {t u : Recipe L} → Related same R t u → (path : List ℕ) → Turned R (found_at t path) (found_at u path)
-    unfolding label_below number_of
+    unfolding label_below inner
     related_found Related.nils [] = Turned.other (λ x e. cc)
     related_found (Related.leaves {l = l} {m = k} e) [] = rw (one_number l k e) (Turned.other {f = Finding.Label (Label.Leaf (number k))} (λ x d. cc))
     related_found (Related.names r) [] = Turned.name r
@@ -189,6 +188,6 @@ module _ {L : Type 0} (number : L → Option ℕ) where
   module _ (θ : Filling L) (part : ℕ → Recipe L) where
     -- the label of a place that is no hole is that of its filled text
     pub layer_label : (form : Form L) → kind_of form ≢ 3 → label_of number [] (layer θ part form) ≡ form_label number form
-    unfolding number_of
+    unfolding inner
     layer_label (Form.hole h) n = absurd (n refl)
     layer_label form n = refl

@@ -1,12 +1,11 @@
 -- A name that is equal to one of another scope stands there at its inner number, or is free in both. Assumes nothing.
 use Rattle.std.proofs.Common.{◌≡◌, ℕ, ◌≢◌, false, nat_eq, Some, None, Option, sym, ap, ◌∙◌, inl, inr}
-use Rattle.std.proofs.lemmas.Bool.{both_ways, eq-eqb, eqb-true, true≢false}
+use Rattle.std.proofs.lemmas.Bool.{both_ways, eq-eqb, true≢false}
 use Rattle.std.proofs.lemmas.Option.{none-some, slice_get-get_or}
 use Rattle.std.specs.List.{slice_get}
 use Rattle.std.specs.Option.{option_eq}
-use Rattle.recipe.specs.Numbering.{Lowest}
 use Rattle.recipe.specs.Scopes.{Scope, NameEqual, inner}
-use Rattle.recipe.proofs.Numbers.{number_lowest}
+use Rattle.recipe.proofs.InnerNumbers.{first_at}
 
 -- two answers that a test tells apart
 pub told_apart : (o r : Option ℕ) → option_eq nat_eq o r ≡ false → o ≢ r
@@ -18,8 +17,8 @@ told_apart (Some j) (Some k) e same = let is : j ≡ k = cc in both_ways _ e (eq
 -- a name with an inner number stands at that position
 name_at : (Ψ : Scope) (k y : ℕ) → inner Ψ y ≡ Some k → slice_get Ψ k ≡ Some y
 name_at Ψ k y e =
-    let low : Lowest nat_eq Ψ y (Some k) = rw e at (number_lowest nat_eq Ψ y) in
-    slice_get-get_or Ψ k y low.0 ∙ ap Some (eqb-true _ y low.1)
+    let at = first_at Ψ y k e in
+    slice_get-get_or Ψ k 0 at.within ∙ ap Some at.there
 
 module _ (Φ Ψ : Scope) (x : ℕ) where
   -- the inner number of a bound name, in the scope of an equal one

@@ -1,16 +1,16 @@
 -- The scope of a place, read by climbing from holder to holder in the words. Assumes nothing.
-use Rattle.std.proofs.Common.{◌≡◌, ℕ, suc, ◌+◌, ◌<◌, ◌≤◌, ◌≢◌, List, [], ◌∷◌, length, nat_eq, true, false, Some, None, Option, refl, sym, ap, ◌∙◌, inl, inr, arith, eq-eqb}
-use Rattle.std.proofs.lemmas.Bool.{cond-true, cond-false, ne_eqb, true≢false}
+use Rattle.std.proofs.Common.{◌≡◌, ℕ, suc, ◌+◌, ◌<◌, ◌≤◌, ◌≢◌, List, [], ◌∷◌, length, true, false, Some, None, Option, refl, sym, ap, ◌∙◌, inl, inr, arith}
+use Rattle.std.proofs.lemmas.Bool.{true≢false}
 use Rattle.std.proofs.lemmas.Option.{none-some}
 use Rattle.std.specs.List.{slice_get}
 use Rattle.std.specs.Option.{is_some, option_map}
 use Rattle.recipe.specs.Common.{In}
-use Rattle.recipe.specs.Numbering.{number_of}
 use Rattle.recipe.specs.Recipes.{Part}
 use Rattle.recipe.specs.Scopes.{Scope, extended, inner}
 use Rattle.recipe.specs.Tables.{Form, Holder, Table, depth, holder, parts, scope, scope_under}
 use Rattle.recipe.proofs.Firsts.{not_some}
 use Rattle.recipe.proofs.Holders.{holder_tells, scope_step}
+use Rattle.recipe.proofs.InnerNumbers.{inner_first, inner_later, inner_nothing}
 use Rattle.nodes.specs.HoldersWritten.{HoldersWritten, written_holder}
 use Rattle.nodes.specs.NameSteps.{binder_of_form}
 use Rattle.nodes.specs.Records.{written, written_form}
@@ -69,19 +69,6 @@ plus k o = option_map (λ i. k + i) o
 plus_one : (k : ℕ) (o : Option ℕ) → plus k (option_map suc o) ≡ plus (k + 1) o
 plus_one k None = refl
 plus_one k (Some i) = ap Some (omega arith)
-
--- the inner number of the innermost name, and of another
-inner_first : (Φ : Scope) (a x : ℕ) → a ≡ x → inner (a ∷ Φ) x ≡ Some 0
-unfolding number_of
-inner_first Φ a x e = cond-true (nat_eq a x) _ _ (eq-eqb a x e)
-
-inner_later : (Φ : Scope) (a x : ℕ) → a ≢ x → inner (a ∷ Φ) x ≡ option_map suc (inner Φ x)
-unfolding number_of
-inner_later Φ a x e = cond-false (nat_eq a x) _ _ (ne_eqb a x e)
-
-inner_nothing : (x : ℕ) → inner [] x ≡ None
-unfolding number_of
-inner_nothing x = refl
 
 -- so many binders stand between p and the place `below` that is reached, none of which has the name x
 pub record Counted (T : Table ℕ) (p x below passed : ℕ) : Type 0 where

@@ -1,16 +1,14 @@
 -- Names in their scopes: what a binder more on each side does, and that equality of names is an equivalence. Assumes nothing.
-use Rattle.std.proofs.Common.{◌≡◌, ℕ, eqb, ◌≢◌, ◌⊎◌, ◌↔◌, [], ◌∷◌, get_or, Some, None, Option, refl, ap, ◌∙◌, inl, inr, arith}
-use Rattle.std.proofs.lemmas.List.{get_or_default}
-use Rattle.std.proofs.lemmas.Bool.{both_ways, cases_eq}
+use Rattle.std.proofs.Common.{◌≡◌, ℕ, ◌≢◌, ◌⊎◌, ◌↔◌, [], ◌∷◌, Some, None, Option, refl, ◌∙◌, inl, inr, arith}
+use Rattle.std.proofs.lemmas.Bool.{cases_eq}
 use Rattle.std.proofs.lemmas.Bool.Decides.{nat_tests}
 use Rattle.recipe.specs.EqualityLaws.{NoneAtCovered}
-use Rattle.recipe.specs.Numbering.{number_of, Lowest}
 use Rattle.recipe.specs.Scopes.{Scope, inner, NameEqual}
-use Rattle.recipe.proofs.Numbers.{number_lowest}
+use Rattle.recipe.proofs.InnerNumbers.{first_at}
 
 -- two names are equal below one binder more exactly when both are its name, or neither is and they are equal without it
 pub name_step : (Φ Ψ : Scope) (a b x y : ℕ) → NameEqual (a ∷ Φ) x (b ∷ Ψ) y ↔ (((x ≡ a) × (y ≡ b)) ⊎ ((x ≢ a) × (y ≢ b) × NameEqual Φ x Ψ y))
-unfolding number_of
+unfolding inner
 name_step Φ Ψ a b x y = (λ h. grind (arith, nat_tests), λ h. grind (arith, nat_tests))
 
 -- one name below one binder more on both sides: it is the binder's, or else equal to itself without it
@@ -35,13 +33,11 @@ name_transitive Φ Ψ Ω x y z h k = grind arith
 pub name_beside : (Φ : Scope) (a b x : ℕ) → x ≢ a → x ≢ b → NameEqual (a ∷ Φ) x (b ∷ Φ) x
 name_beside Φ a b x n m = (name_step Φ Φ a b x x).1 (inr (n, m, name_reflexive Φ x))
 
--- the number of a name is the lowest position at which it stands
+-- the inner number of a name is the lowest position at which it stands
 pub none_at_covered_lem : NoneAtCovered
 none_at_covered_lem Φ i x c e =
-    let low : Lowest eqb Φ x (Some i) = rw e at (number_lowest eqb Φ x) in
-    let j = c.further_in in
-    let one : get_or Φ j x ≡ get_or Φ i x = get_or_default Φ j x 0 (omega arith) ∙ c.one_name ∙ get_or_default Φ i 0 x c.within in
-    both_ways _ (low.2 j c.lower) (ap (λ y. eqb y x) one ∙ low.1)
+    let at = first_at Φ x i e in
+    at.none_lower c.further_in c.lower (c.one_name ∙ at.there)
 
 -- the partner of a binder's own name is the other binder's name
 pub name_at_binder : (Φ Ψ : Scope) (a b x : ℕ) → NameEqual (a ∷ Φ) x (b ∷ Ψ) b → x ≡ a
@@ -53,5 +49,5 @@ name_past_binder Φ Ψ a b x y other h = elim ((name_step Φ Ψ a b x y).0 h) [ 
 
 -- without a binder names are equal only if they are one
 pub name_without : (x y : ℕ) → NameEqual [] x [] y → x ≡ y
-unfolding number_of
+unfolding inner
 name_without x y h = grind arith

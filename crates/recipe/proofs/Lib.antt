@@ -8,6 +8,7 @@ pub mod Filled
 pub mod Firsts
 pub mod HistorySteps
 pub mod Holders
+pub mod InnerNumbers
 pub mod Lists
 pub mod Marking
 pub mod Numbers

@@ -1,6 +1,6 @@
 -- Scopes, and when two names are equal, each in its scope. Assumes nothing. (docs/RULES.md, "Scopes")
-use Rattle.std.specs.Prelude.{◌≡◌, ℕ, ◌⊎◌, List, ◌∷◌, Some, None, Option, nat_eq}
-use Rattle.recipe.specs.Numbering.{number_of}
+use Rattle.std.specs.Prelude.{◌≡◌, ℕ, suc, cond, ◌⊎◌, List, [], ◌∷◌, Some, None, Option, ◌==◌}
+use Rattle.std.specs.Option.{option_map}
 
 -- the names of the binders above, innermost first
 abbrev pub Scope : Type 0
@@ -12,8 +12,9 @@ extended None Φ = Φ
 extended (Some a) Φ = a ∷ Φ
 
 -- the inner number of a name: the first position, from 0, at which the scope has it; none where the name is free
-abbrev pub inner : Scope → ℕ → Option ℕ
-inner Φ x = number_of nat_eq Φ x
+unfoldable pub inner : Scope → ℕ → Option ℕ
+inner [] x = None
+inner (a ∷ Φ) x = cond (a == x) (Some 0) (option_map suc (inner Φ x))
 
 -- two names are equal in their scopes: both free and one name, or both bound with one inner number
 abbrev pub NameEqual : Scope → ℕ → Scope → ℕ → Type 0

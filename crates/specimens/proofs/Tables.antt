@@ -11,8 +11,8 @@ use Rattle.leaves.specs.declared.rate.Rate.{Rate}
 use Rattle.recipe.specs.Common.{first_below}
 use Rattle.recipe.specs.Fillings.{Filling, Pair, Satisfies, SatisfiesAll, filled_within}
 use Rattle.recipe.specs.Labels.{label_below}
-use Rattle.recipe.specs.Numbering.{number_of}
 use Rattle.recipe.specs.Recipes.{Recipe}
+use Rattle.recipe.specs.Scopes.{inner}
 use Rattle.recipe.specs.Tables.{Table, table_of, scope_within}
 use Rattle.specimens.specs.Examples.{AsListed, Example}
 use Rattle.specimens.proofs.Helpers.{every_nil, every_cons, no_names}
@@ -41,7 +41,7 @@ listed e ok allowed right =
 
 -- what a table computes by
 unfoldable pub opened : Unit {0}
-unfolding filled_within scope_within first_below number_of label_below no_names
+unfolding filled_within scope_within first_below inner label_below no_names
 opened = tt
 
 -- one pair, or two, satisfied
