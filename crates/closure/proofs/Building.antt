@@ -172,9 +172,9 @@ module _ {L : Type 0} {same : L → L → Bool} (laws : Sameness same) {T : Tabl
 
     module _ (parts_related : RelatedTexts f) where
       -- parts at one step of linked places are related by what their joined names are above
-      part_related : (S : Relation) (p q : ℕ) (u v : Part ℕ) → linked p q → In u (parts (T.form p)) → In v (parts (T.form q)) → u.step ≡ v.step → ((x y : ℕ) → in_parts u v (joined p q) x y → S x y) → Related same S (f u.at) (f v.at)
-      part_related S p q u v l i k e above =
-          weaken S (parts_related u.at v.at (Linked.one_step u v l i k e)) (λ path x y a b j. above x y (joined_above ready u v l i k e (free_clean u.at path x a) (free_clean v.at path y b) j))
+      part_related : (S : Relation) (p q : ℕ) (u v : Part ℕ) → linked p q → kind_of (T.form p) ≡ kind_of (T.form q) → In u (parts (T.form p)) → In v (parts (T.form q)) → u.step ≡ v.step → ((x y : ℕ) → in_parts u v (joined p q) x y → S x y) → Related same S (f u.at) (f v.at)
+      part_related S p q u v l d i k e above =
+          weaken S (parts_related u.at v.at (Linked.one_step u v l d i k e)) (λ path x y a b j. above x y (joined_above ready u v l i k e (free_clean u.at path x a) (free_clean v.at path y b) j))
 
       -- linked places that are no holes have forms that do not differ, and so related texts
       forms_related : (p q : ℕ) (θ ξ : Filling L) (F G : Form L) → T.form p ≡ F → T.form q ≡ G → linked p q → (Differ same F G → ⊥) → kind_of F ≢ 3 → kind_of G ≢ 3 → Related same (joined p q) (layer θ f F) (layer ξ f G)
@@ -188,11 +188,11 @@ module _ {L : Type 0} {same : L → L → Bool} (laws : Sameness same) {T : Tabl
           let together : joined p q x y = elim (joined_or_not p q x y) [ inl j ↦ j | inr none ↦ absurd (consistent.no_spoiled p (SpoiledAmong.apart at also tt l none)) ] in
           Related.names together
       forms_related p q θ ξ (Form.bind a c) (Form.bind b d) at also l alike n o =
-          Related.binds (part_related (under (joined p q) a b) p q (inside a c) (inside b d) l (rw at (inl refl)) (rw also (inl refl)) refl (λ x y s. elim s [ inl e ↦ inl (cc, cc) | inr e ↦ inr (λ i. e.0 cc, λ i. e.1 cc, e.2) ]))
+          Related.binds (part_related (under (joined p q) a b) p q (inside a c) (inside b d) l (rw (at, also) refl) (rw at (inl refl)) (rw also (inl refl)) refl (λ x y s. elim s [ inl e ↦ inl (cc, cc) | inr e ↦ inr (λ i. e.0 cc, λ i. e.1 cc, e.2) ]))
       forms_related p q θ ξ (Form.call c d) (Form.call g h) at also l alike n o =
           Related.calls
-          (part_related (joined p q) p q (left c) (left g) l (rw at (inl refl)) (rw also (inl refl)) refl (λ x y s. elim s [ inl e ↦ absurd cc | inr e ↦ e.2 ]))
-          (part_related (joined p q) p q (right d) (right h) l (rw at (inr (inl refl))) (rw also (inr (inl refl))) refl (λ x y s. elim s [ inl e ↦ absurd cc | inr e ↦ e.2 ]))
+          (part_related (joined p q) p q (left c) (left g) l (rw (at, also) refl) (rw at (inl refl)) (rw also (inl refl)) refl (λ x y s. elim s [ inl e ↦ absurd cc | inr e ↦ e.2 ]))
+          (part_related (joined p q) p q (right d) (right h) l (rw (at, also) refl) (rw at (inr (inl refl))) (rw also (inr (inl refl))) refl (λ x y s. elim s [ inl e ↦ absurd cc | inr e ↦ e.2 ]))
       forms_related p q θ ξ F G at also l alike n o = absurd (alike (Differ.kinds n o (λ e. omega arith)))
 
       solid_related : (p q : ℕ) (θ ξ : Filling L) → linked p q → solid p → solid q → Related same (joined p q) (layer θ f (T.form p)) (layer ξ f (T.form q))

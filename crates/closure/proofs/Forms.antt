@@ -1,5 +1,5 @@
 -- Forms and their parts: one part at a step, what kind a form is of, and where holes and parts stand in a table. Assumes nothing.
-use Rattle.std.proofs.Common.{◌≡◌, ℕ, ◌<◌, ◌≢◌, ◌⊎◌, List, [], ◌∷◌, Some, refl, ap, ◌∙◌, subst, inl, inr, arith}
+use Rattle.std.proofs.Common.{◌≡◌, ℕ, ◌<◌, ◌≢◌, ◌⊎◌, List, [], ◌∷◌, Some, cond, ◌==◌, sym, refl, ap, ◌∙◌, subst, inl, inr, arith}
 use Rattle.std.proofs.lemmas.Bool.{cases_eq, cases_lt}
 use Rattle.recipe.specs.Common.{In}
 use Rattle.recipe.specs.Fillings.{Pair}
@@ -48,6 +48,19 @@ module _ {X : Type 0} where
   both_under y z a s t i j e u = absurd (grind arith)
 
 module _ {L : Type 0} where
+  -- a form with a part at a step has its kind by the step
+  kind_by_step : (f : Form L) (x : Part ℕ) → In x (parts f) → kind_of f ≡ cond (x.step == 2) 4 5
+  kind_by_step (Form.bind a c) x (inl e) = rw e refl
+  kind_by_step (Form.bind a c) x (inr i) = absurd i
+  kind_by_step (Form.call c d) x (inl e) = rw e refl
+  kind_by_step (Form.call c d) x (inr (inl e)) = rw e refl
+  kind_by_step (Form.call c d) x (inr (inr i)) = absurd i
+  kind_by_step f x i = absurd i
+
+  -- so two forms with parts at one step have one kind
+  pub one_kind : (f g : Form L) (x y : Part ℕ) → In x (parts f) → In y (parts g) → x.step ≡ y.step → kind_of f ≡ kind_of g
+  one_kind f g x y i j e = kind_by_step f x i ∙ ap (λ s. cond (s == 2) 4 5) e ∙ sym (kind_by_step g y j)
+
   -- a form of the kind of a hole is one
   pub hole_form : (f : Form L) → kind_of f ≡ 3 → (h : ℕ) × (f ≡ Form.hole h)
   hole_form (Form.hole h) e = (h, refl)

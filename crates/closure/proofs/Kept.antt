@@ -37,7 +37,7 @@ module _ {L : Type 0} {same : L → L → Bool} (laws : Sameness same) {T : Tabl
   filled_related (Linked.chain l k) = of_one_shape (compose laws (filled_related l) (filled_related k))
   filled_related (Linked.told i) = of_one_shape (told_related _ _ i)
   filled_related (Linked.one_hole {h = h} d e) = rw (text d, text e) (identical laws Always (θ h) (λ path x f. tt))
-  filled_related (Linked.one_step x y l i j e) = of_one_shape (filled_parts _ _ x y (filled_related l) i j e)
+  filled_related (Linked.one_step x y l k i j e) = of_one_shape (filled_parts _ _ x y (filled_related l) i j e)
 
   -- a node is free at a spot of the filled text of its place; nowhere is free at none
   abbrev Spot : Node → List ℕ → Type 0

@@ -11,7 +11,7 @@ use Rattle.closure.specs.Closures.{Closure}
 use Rattle.closure.specs.Decision.{WellFormed, OnlyHoles}
 use Rattle.closure.specs.Names.{Node, Joined}
 use Rattle.closure.proofs.ClosureDecided.{Bounded, carried_inside, carried_decided}
-use Rattle.closure.proofs.Forms.{form_parts, step_low, one_at_step, known_one_hole, holder_inside, form_inside}
+use Rattle.closure.proofs.Forms.{form_parts, step_low, one_at_step, one_kind, known_one_hole, holder_inside, form_inside}
 use Rattle.closure.proofs.Growing.{numbers, in_numbers, count, count_le, count_less, Grown, grown}
 use Rattle.closure.proofs.Known.{Known, known_same, known_both, known_either, known_not, Among, known_among, known_in, known_pair, least_or_none}
 use Rattle.closure.proofs.NamesDecided.{Low, joined_by_links, joined_ends}
@@ -31,10 +31,12 @@ module _ {L : Type 0} {T : Table L} {m : ℕ} {pairs : List Pair} (ready : WellF
   linked_carried (Linked.chain l k) = Closure.chain (linked_carried l) (linked_carried k)
   linked_carried (Linked.told i) = Closure.held (inl i)
   linked_carried (Linked.one_hole {h = h} d e) = Closure.held (inr (h, d, e))
-  linked_carried (Linked.one_step x y l i j e) = Closure.part (linked_carried l) (x, i, (e, refl)) (y, j, (refl, refl))
+  linked_carried (Linked.one_step x y l k i j e) = Closure.part (linked_carried l) (x, i, (e, refl)) (y, j, (refl, refl))
 
   parts_linked : (p q s c d : ℕ) → Linked T pairs p q → PlacePart p s c → PlacePart q s d → Linked T pairs c d
-  parts_linked p q s c d l (x, i, (e, at)) (y, j, (f, to)) = rw (← at, ← to) (Linked.one_step x y l i j (e ∙ sym f))
+  parts_linked p q s c d l (x, i, (e, at)) (y, j, (f, to)) =
+      let same = e ∙ sym f in
+      rw (← at, ← to) (Linked.one_step x y l (one_kind (T.form p) (T.form q) x y i j same) i j same)
 
   carried_linked : {p q : ℕ} → Closure Near PlacePart p q → Linked T pairs p q
   carried_linked Closure.itself = Linked.itself

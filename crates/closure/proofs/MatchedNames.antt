@@ -160,7 +160,7 @@ module _ {L : Type 0} {T : Table L} {m : ℕ} {pairs : List Pair} (ready : WellF
     ];
   }
   matched (Linked.one_hole d e) = with_itself (λ x h. Closure.held (NamesHeld.one_hole d e h))
-  matched (Linked.one_step y z l i j e) = matched_parts y z i j e l (matched l)
+  matched (Linked.one_step y z l k i j e) = matched_parts y z i j e l (matched l)
 
   -- a name of a place that is neither nowhere nor joined with another name of the place
   pub record Clean (p x : ℕ) : Type 0 where

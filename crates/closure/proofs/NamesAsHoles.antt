@@ -1,8 +1,10 @@
 -- A table with a new hole for each name at a higher place has the parts, the links and the joined names of the table, and those misnamed places that are not higher. Assumes nothing.
 use Rattle.std.proofs.Common.{◌≡◌, ℕ, ◌+◌, ◌<◌, ◌≤◌, Bool, ltb, ◌≢◌, ◌⊎◌, List, sym, refl, ap, subst₂, inl, inr, arith}
 use Rattle.std.proofs.lemmas.Bool.{cond_both, ltb-true, ltb-false}
+use Rattle.recipe.specs.Common.{In}
 use Rattle.recipe.specs.Fillings.{Pair}
 use Rattle.recipe.specs.Links.{Differ, kind_of}
+use Rattle.recipe.specs.Recipes.{Part}
 use Rattle.recipe.specs.Tables.{Form, Table, parts}
 use Rattle.recipe.specs.Tells.{NoClash, NoCycle, name_as_hole, names_as_holes}
 use Rattle.recipe.proofs.Shapes.{differ_no_holes}
@@ -24,6 +26,11 @@ module _ {L : Type 0} {p q : ℕ} where
   parts_as (AsHole.as_was up) = refl
   parts_as (AsHole.new_hole h) = refl
 
+  -- a form with parts keeps its kind
+  kind_as : {f g : Form L} → AsHole p q f g → (y : Part ℕ) → In y (parts f) → kind_of f ≡ kind_of g
+  kind_as (AsHole.as_was up) y i = refl
+  kind_as (AsHole.new_hole h) y i = absurd i
+
   -- a form that is no hole then is as it was, a hole is an old or a new one, and a name stands at p or lower
   pub solid_as : {f g : Form L} → AsHole p q f g → kind_of g ≢ 3 → f ≡ g
   solid_as (AsHole.as_was up) n = refl
@@ -44,7 +51,7 @@ module _ {L : Type 0} {p q : ℕ} where
 
 module _ {L : Type 0} (p : ℕ) {T : Table L} where
   holes_over : SameParts T (names_as_holes p T)
-  holes_over = record { size = refl; at = λ q. parts_as (as_hole p q (T.form q)); holes = λ q r h d e. inr (h, ap (name_as_hole p q) d, ap (name_as_hole p r) e) }
+  holes_over = record { size = refl; at = λ q. parts_as (as_hole p q (T.form q)); kinds = λ q y. kind_as (as_hole p q (T.form q)) y; holes = λ q r h d e. inr (h, ap (name_as_hole p q) d, ap (name_as_hole p r) e) }
 
   -- what can be matched in a table can be with names as holes
   pub holes_well_formed : {m : ℕ} {pairs : List Pair} → WellFormed T m pairs → WellFormed (names_as_holes p T) m pairs
@@ -56,6 +63,7 @@ module _ {L : Type 0} (p : ℕ) {T : Table L} where
     holes_back = record {
       size = refl;
       at = λ q. sym (parts_as (as_hole p q (T.form q)));
+      kinds = λ q y i. sym (kind_as (as_hole p q (T.form q)) y (rw (parts_as (as_hole p q (T.form q))) i));
       holes = λ q r h d e. elim (hole_as (as_hole p q (T.form q)) d) [
         | inl old ↦ elim (hole_as (as_hole p r (T.form r)) e) [ inl also ↦ inr (h, old, also) | inr new ↦ let low = holes q h old in absurd (omega arith) ]
         | inr new ↦ elim (hole_as (as_hole p r (T.form r)) e) [ inl old ↦ let low = holes r h old in absurd (omega arith) | inr also ↦ inl (omega arith) ]

@@ -67,7 +67,7 @@ module _ {L M : Type 0} where
   alike_parts SameForm.nils = refl
   alike_parts a = refl
 
-  alike_kind : {f : Form L} {g : Form M} → SameForm f g → kind_of f ≡ kind_of g
+  pub alike_kind : {f : Form L} {g : Form M} → SameForm f g → kind_of f ≡ kind_of g
   alike_kind SameForm.nils = refl
   alike_kind a = refl
 
@@ -121,7 +121,7 @@ module _ {L M : Type 0} {same : L → L → Bool} {other : M → M → Bool} {T 
   }
 
   same_parts : SameParts T U
-  same_parts = record { size = alike.size; at = λ p. alike_parts (alike.forms p); holes = λ p q h d e. inr (h, alike_hole (alike.forms p) d, alike_hole (alike.forms q) e) }
+  same_parts = record { size = alike.size; at = λ p. alike_parts (alike.forms p); kinds = λ p y i. alike_kind (alike.forms p); holes = λ p q h d e. inr (h, alike_hole (alike.forms p) d, alike_hole (alike.forms q) e) }
 
   same_kind : (p : ℕ) → kind_of (T.form p) ≡ kind_of (U.form p)
   same_kind p = alike_kind (alike.forms p)

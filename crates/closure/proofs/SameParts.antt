@@ -3,7 +3,7 @@ use Rattle.std.proofs.Common.{◌≡◌, ℕ, zero, suc, ◌≤◌, ◌⊎◌, L
 use mathlib.Core.Path.{fun_ext}
 use Rattle.recipe.specs.Common.{In, first_below}
 use Rattle.recipe.specs.Fillings.{Pair}
-use Rattle.recipe.specs.Links.{Linked, Reaches, ComesBack}
+use Rattle.recipe.specs.Links.{Linked, Reaches, ComesBack, kind_of}
 use Rattle.recipe.specs.Recipes.{Part}
 use Rattle.recipe.specs.Tables.{Form, Table, parts, holds_by, holder, scope_under, scope_within, scope}
 use Rattle.recipe.specs.Tells.{NoCycle}
@@ -13,10 +13,11 @@ use Rattle.closure.specs.Causes.{Misnamed}
 use Rattle.closure.specs.Decision.{SpoiledAmong, WellFormed}
 use Rattle.closure.specs.Names.{Node, NamesHeld, NamePart, Joined}
 
--- the second table has the size and the parts of the first, and places of one hole in the first are one place or of one hole in the second
+-- the second table has the size and the parts of the first, a place with parts is of one kind in both, and places of one hole in the first are one place or of one hole in the second
 pub record SameParts {L M : Type 0} (T : Table L) (U : Table M) : Type 0 where
   pub size : T.size ≡ U.size
   pub at : (p : ℕ) → parts (T.form p) ≡ parts (U.form p)
+  pub kinds : (p : ℕ) (y : Part ℕ) → In y (parts (T.form p)) → kind_of (T.form p) ≡ kind_of (U.form p)
   pub holes : (p q h : ℕ) → T.form p ≡ Form.hole h → T.form q ≡ Form.hole h → (p ≡ q) ⊎ ((k : ℕ) × (U.form p ≡ Form.hole k) × (U.form q ≡ Form.hole k))
 
 module _ {L M : Type 0} {T : Table L} {U : Table M} (alike : SameParts T U) where
@@ -65,7 +66,7 @@ module _ {L M : Type 0} {T : Table L} {U : Table M} (alike : SameParts T U) wher
     linked_over (Linked.chain l k) = Linked.chain (linked_over l) (linked_over k)
     linked_over (Linked.told i) = Linked.told i
     linked_over (Linked.one_hole {p = p} {q = q} {h = h} d e) = elim (alike.holes p q h d e) [ inl s ↦ rw s Linked.itself | inr o ↦ Linked.one_hole o.1 o.2 ]
-    linked_over (Linked.one_step x y l i j e) = Linked.one_step x y (linked_over l) (part_over _ x i) (part_over _ y j) e
+    linked_over (Linked.one_step x y l k i j e) = Linked.one_step x y (linked_over l) (sym (alike.kinds _ x i) ∙ k ∙ alike.kinds _ y j) (part_over _ x i) (part_over _ y j) e
 
     reaches_over : {p q : ℕ} → Reaches T pairs p q → Reaches U pairs p q
     reaches_over Reaches.here = Reaches.here

@@ -69,4 +69,4 @@ module _ {L : Type 0} (T : Table L) (told : List Pair) (rows : List ℕ) (past :
   linked_inside (Linked.chain l m) = chained T.size (linked_inside l) (linked_inside m)
   linked_inside (Linked.told {p = p} {q = q} i) = joined_inside (joined.tells p q i)
   linked_inside (Linked.one_hole {p = p} {q = q} d e) = inr (form_inside p (λ f. let g = d in cc), form_inside q (λ f. let g = e in cc))
-  linked_inside (Linked.one_step {p = p} {q = q} x y l i j e) = inr (part_inside p x i, part_inside q y j)
+  linked_inside (Linked.one_step {p = p} {q = q} x y l k i j e) = inr (part_inside p x i, part_inside q y j)

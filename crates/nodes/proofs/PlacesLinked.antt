@@ -6,6 +6,7 @@ use Rattle.recipe.specs.Links.{Linked}
 use Rattle.recipe.specs.Tables.{Form, Table, parts}
 use Rattle.closure.specs.Closures.{Closure}
 use Rattle.closure.proofs.ClosureGrown.{closure_over}
+use Rattle.closure.proofs.Forms.{one_kind}
 use Rattle.forest.specs.Exact.{Joined, OneMore}
 use Rattle.forest.specs.Rows.{IsNode}
 use Rattle.nodes.specs.PlaceClasses.{PlacesJoined, RootsLink, place_parts}
@@ -33,7 +34,8 @@ module _ {L : Type 0} (T : Table L) where
   linked_parts told u v side c d l p q =
       let (x, i, s, at) = part_found (parts (T.form u)) side c p in
       let (y, j, t, by) = part_found (parts (T.form v)) side d q in
-      rw (← at, ← by) (Linked.one_step x y l i j (s ∙ sym t))
+      let same = s ∙ sym t in
+      rw (← at, ← by) (Linked.one_step x y l (one_kind (T.form u) (T.form v) x y i j same) i j same)
 
   -- what pairs of linked places join is linked
   pub joined_linked : (told : List Pair) (pairs : List (ℕ × ℕ)) → ((p q : ℕ) → In (p, q) pairs → Linked T told p q) → {p q : ℕ} → Joined (place_parts T) pairs p q → Linked T told p q
@@ -51,7 +53,7 @@ module _ {L : Type 0} (T : Table L) where
   linked_joined told pairs tells holes (Linked.chain l k) = Closure.chain (linked_joined told pairs tells holes l) (linked_joined told pairs tells holes k)
   linked_joined told pairs tells holes (Linked.told {p = p} {q = q} i) = tells p q i
   linked_joined told pairs tells holes (Linked.one_hole {p = p} {q = q} {h = h} d e) = holes p q h d e
-  linked_joined told pairs tells holes (Linked.one_step {p = p} {q = q} x y l i j e) =
+  linked_joined told pairs tells holes (Linked.one_step {p = p} {q = q} x y l k i j e) =
       let (low, at) = part_is_found (T.form p) x i in
       let (high, by) = part_is_found (T.form q) y j in
       Closure.part {s = x.step} (linked_joined told pairs tells holes l) (low, at) (low, rw (← e) at by)
@@ -75,7 +77,7 @@ module _ {L : Type 0} (T : Table L) where
   linked_more told w (Linked.chain l k) = Linked.chain (linked_more told w l) (linked_more told w k)
   linked_more told w (Linked.told {p = p} {q = q} i) = Linked.told (in_first (p, q) w told i)
   linked_more told w (Linked.one_hole d e) = Linked.one_hole d e
-  linked_more told w (Linked.one_step x y l i j e) = Linked.one_step x y (linked_more told w l) i j e
+  linked_more told w (Linked.one_step x y l k i j e) = Linked.one_step x y (linked_more told w l) k i j e
 
   module _ (told : List Pair) (u v : ℕ) (old new : List ℕ) (long : length new ≡ length old) (joined : PlacesJoined T told old) (more : OneMore u v old new) where
     new_linked : (p q : ℕ) → In (p, q) ((u, v) ∷ joined.pairs) → Linked T (told ++ ((u, v) ∷ [])) p q

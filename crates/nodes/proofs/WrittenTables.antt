@@ -3,12 +3,14 @@ use Rattle.std.proofs.Common.{◌≡◌, ℕ, Bool, nat_eq, List, length, unwrap
 use Rattle.std.proofs.lemmas.Bool.{cases_lt, cond-false, cond-true}
 use Rattle.std.proofs.lemmas.Option.{slice_get_past}
 use Rattle.std.specs.List.{range_with_len, slice_get}
+use Rattle.recipe.specs.Links.{kind_of}
 use Rattle.recipe.specs.Numbering.{number_of}
 use Rattle.recipe.specs.Sameness.{Sameness}
 use Rattle.recipe.specs.Tables.{Form, Table, form_at, parts, table_of}
 use Rattle.recipe.specs.Validity.{Ordered}
 use Rattle.recipe.specs.declared.places.Place.{Place}
 use Rattle.closure.specs.OtherLeaves.{SameForm, SameTables}
+use Rattle.closure.proofs.OtherLeaves.{alike_kind}
 use Rattle.closure.proofs.SameParts.{ordered_over}
 use Rattle.nodes.specs.Records.{with_numbers, written, written_form}
 use Rattle.nodes.proofs.LeafNumbers.{leaf_numbered, leaf_own, leaves_told}
@@ -51,6 +53,7 @@ module _ {L : Type 0} (number : L → Option ℕ) (places : List Place) (ls : Li
       (record {
         size = refl;
         at = λ p. number_parts number (T.form p) ∙ sym (ap parts (form_written p));
+        kinds = λ p y i. alike_kind (alike_numbers number (T.form p)) ∙ sym (ap kind_of (form_written p));
         holes = λ p q h d e. inr (h, form_written p ∙ ap (with_numbers number) d, form_written q ∙ ap (with_numbers number) e);
       })
 

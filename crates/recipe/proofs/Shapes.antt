@@ -172,7 +172,7 @@ module _ {L : Type 0} {same : L → L → Bool} where
           let there : filled T θ p ≡ θ h = filled_layer T θ rising p ∙ ap (layer θ (filled T θ)) d in
           let also : filled T θ q ≡ θ h = filled_layer T θ rising q ∙ ap (layer θ (filled T θ)) e in
           rw (there, also) (shape_reflexive (θ h))
-      linked_shape (Linked.one_step {p = p} {q = q} x y l i j e) =
+      linked_shape (Linked.one_step {p = p} {q = q} x y l k i j e) =
           piece_shapes (filled_part (filled T θ) x) (filled_part (filled T θ) y) (linked_shape l) (filled_piece T θ rising p x i) (filled_piece T θ rising q y j) e
 
       pub shapes_no_clash : NoClash same T pairs

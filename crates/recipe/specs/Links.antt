@@ -5,15 +5,6 @@ use Rattle.recipe.specs.Fillings.{Pair}
 use Rattle.recipe.specs.Recipes.{Part}
 use Rattle.recipe.specs.Tables.{Form, Table, parts}
 
--- the smallest equivalence that links the pairs and the places of one hole, and with two places their parts at one step
-pub data Linked {L : Type 0} (T : Table L) (pairs : List Pair) : ℕ → ℕ → Type 0 where
-  itself : {p : ℕ} → Linked T pairs p p
-  back : {p q : ℕ} → Linked T pairs p q → Linked T pairs q p
-  chain : {p q r : ℕ} → Linked T pairs p q → Linked T pairs q r → Linked T pairs p r
-  told : {p q : ℕ} → In (p, q) pairs → Linked T pairs p q
-  one_hole : {p q h : ℕ} → T.form p ≡ Form.hole h → T.form q ≡ Form.hole h → Linked T pairs p q
-  one_step : {p q : ℕ} (x y : Part ℕ) → Linked T pairs p q → In x (parts (T.form p)) → In y (parts (T.form q)) → x.step ≡ y.step → Linked T pairs x.at y.at
-
 -- the kind of a form, as the records of a table have it
 abbrev pub kind_of : {L : Type 0} → Form L → ℕ
 kind_of Form.nil = 0
@@ -22,6 +13,15 @@ kind_of (Form.name x) = 2
 kind_of (Form.hole h) = 3
 kind_of (Form.bind a c) = 4
 kind_of (Form.call c d) = 5
+
+-- the smallest equivalence that links the pairs and the places of one hole, and with two places of one kind their parts at one step
+pub data Linked {L : Type 0} (T : Table L) (pairs : List Pair) : ℕ → ℕ → Type 0 where
+  itself : {p : ℕ} → Linked T pairs p p
+  back : {p q : ℕ} → Linked T pairs p q → Linked T pairs q p
+  chain : {p q r : ℕ} → Linked T pairs p q → Linked T pairs q r → Linked T pairs p r
+  told : {p q : ℕ} → In (p, q) pairs → Linked T pairs p q
+  one_hole : {p q h : ℕ} → T.form p ≡ Form.hole h → T.form q ≡ Form.hole h → Linked T pairs p q
+  one_step : {p q : ℕ} (x y : Part ℕ) → Linked T pairs p q → kind_of (T.form p) ≡ kind_of (T.form q) → In x (parts (T.form p)) → In y (parts (T.form q)) → x.step ≡ y.step → Linked T pairs x.at y.at
 
 -- neither of two forms is a hole, and their kinds differ, or they are leaves that are not the same
 pub data Differ {L : Type 0} (same : L → L → Bool) : Form L → Form L → Type 0 where

@@ -60,6 +60,6 @@ module _ (T : Table Rate) (pairs : List Pair) (class : ℕ → ℕ) (of_hole : �
   linked_class (Linked.chain l m) = linked_class l ∙ linked_class m
   linked_class (Linked.told i) = told _ i
   linked_class (Linked.one_hole {p = p} {q = q} {h = h} d e) = holes p h d ∙ sym (holes q h e)
-  linked_class (Linked.one_step {p = p} {q = q} x y l i j e) =
+  linked_class (Linked.one_step {p = p} {q = q} x y l k i j e) =
       let same : class p ≡ class q = linked_class l in
       below p x i ∙ (ap (λ c. of_part c x.step) same ∙ (ap (of_part (class q)) e ∙ sym (below q y j)))
