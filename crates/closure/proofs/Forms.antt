@@ -1,5 +1,5 @@
 -- Forms and their parts: one part at a step, what kind a form is of, and where holes and parts stand in a table. Assumes nothing.
-use Rattle.std.proofs.Common.{◌≡◌, ℕ, ◌<◌, ◌≢◌, ◌⊎◌, List, [], ◌∷◌, Some, cond, ◌==◌, sym, refl, ap, ◌∙◌, subst, inl, inr, arith}
+use Rattle.std.proofs.Common.{◌≡◌, ℕ, ◌<◌, ◌≢◌, ◌⊎◌, List, [], ◌∷◌, Some, Option, cond, ◌==◌, sym, refl, ap, ◌∙◌, subst, inl, inr, arith}
 use Rattle.std.proofs.lemmas.Bool.{cases_eq, cases_lt}
 use Rattle.recipe.specs.Common.{In}
 use Rattle.recipe.specs.Fillings.{Pair}
@@ -48,6 +48,19 @@ module _ {X : Type 0} where
   both_under y z a s t i j e u = absurd (grind arith)
 
 module _ {L : Type 0} where
+  -- a bind has its inside as a part, and a form with a part under a binder is a bind
+  pub bind_inside : (f : Form L) (a c : ℕ) → f ≡ Form.bind a c → In (inside a c) (parts f)
+  bind_inside f a c e = rw e (inl refl)
+
+  pub bind_around : (f : Form L) (y : Part ℕ) (a : ℕ) → In y (parts f) → y.under ≡ Some a → f ≡ Form.bind a y.at
+  bind_around (Form.bind b c) y a (inl e) u =
+      let name : ◌≡◌ {A = Option ℕ} (Some b) (Some a) = ap (λ w. w.under) (sym e) ∙ u in
+      let own : b ≡ a = cc in
+      rw (e, own) refl
+  bind_around (Form.bind b c) y a (inr i) u = absurd i
+  bind_around (Form.call c d) y a i u = absurd (grind arith)
+  bind_around f y a i u = absurd i
+
   -- a form with a part at a step has its kind by the step
   kind_by_step : (f : Form L) (x : Part ℕ) → In x (parts f) → kind_of f ≡ cond (x.step == 2) 4 5
   kind_by_step (Form.bind a c) x (inl e) = rw e refl
@@ -89,6 +102,11 @@ module _ {L : Type 0} where
   pub known_one_hole : (f g : Form L) → Known ((h : ℕ) × (f ≡ Form.hole h) × (g ≡ Form.hole h))
   known_one_hole f g = known_hole {P = λ h. g ≡ Form.hole h} (λ h. known_hole_at h g) f
 
+  -- whether a form is a bind of a name
+  pub known_bind : (a : ℕ) (f : Form L) → Known ((c : ℕ) × (f ≡ Form.bind a c))
+  known_bind a (Form.bind b c) = known_same (λ e. (c, ap (λ x. Form.bind x c) e)) (λ w. cc) (cases_eq b a)
+  known_bind a f = inr (λ w. cc)
+
 module _ {L : Type 0} {T : Table L} {m : ℕ} {pairs : List Pair} (ready : WellFormed T m pairs) where
   pub rising : Rising T
   rising = record { up = ready.ordered.rising; past = ready.past }
@@ -99,3 +117,9 @@ module _ {L : Type 0} {T : Table L} {m : ℕ} {pairs : List Pair} (ready : WellF
 
   pub form_inside : (p : ℕ) → T.form p ≢ Form.nil → p < T.size
   form_inside p n = elim (cases_lt p T.size) [ inl l ↦ l | inr l ↦ absurd (n (ready.past p l)) ]
+
+  -- so a bind is a place of the table, and its name is below m
+  pub bind_low : (p a c : ℕ) → T.form p ≡ Form.bind a c → (p < T.size) × (a < m)
+  bind_low p a c e =
+      let i = bind_inside (T.form p) a c e in
+      (holder_inside p (inside a c) i, ready.binders p a (inside a c) i refl)

@@ -1,9 +1,9 @@
 -- What a filling that satisfies the pairs keeps of the closures: so links, parts and joined names are consistent. Assumes nothing.
-use Rattle.std.proofs.Common.{◌≡◌, ℕ, Bool, ◌↔◌, List, [], ◌∷◌, sym, ◌∙◌, inl, inr}
+use Rattle.std.proofs.Common.{◌≡◌, ℕ, Bool, ◌↔◌, List, [], ◌∷◌, sym, refl, ◌∙◌, inl, inr}
 use Rattle.recipe.specs.Common.{In}
 use Rattle.recipe.specs.Fillings.{Filling, Pair, SatisfiesAll, filled, layer}
 use Rattle.recipe.specs.Links.{Linked}
-use Rattle.recipe.specs.Recipes.{Part}
+use Rattle.recipe.specs.Recipes.{Part, inside}
 use Rattle.recipe.specs.Sameness.{Sameness}
 use Rattle.recipe.specs.Scopes.{NameEqual}
 use Rattle.recipe.specs.Tables.{Form, Table, parts, scope}
@@ -12,7 +12,7 @@ use Rattle.closure.specs.Closures.{Closure}
 use Rattle.closure.specs.Decision.{Consistent, Spoiled, SpoiledAmong, WellFormed}
 use Rattle.closure.specs.Names.{Node, NamesHeld, NamePart, Joined}
 use Rattle.closure.proofs.EqualNames.{name_once, name_once_back}
-use Rattle.closure.proofs.Forms.{rising}
+use Rattle.closure.proofs.Forms.{bind_inside, rising}
 use Rattle.closure.proofs.Layers.{filled_form}
 use Rattle.closure.proofs.MatchedNames.{matched}
 use Rattle.closure.proofs.Relations.{Always, beneath, parts_related, of_one_shape, binder_not_free, binders_along, FreeAt, Related, free_step, step_free, transport, transport_back, name_free, equal_related, converse, compose, identical}
@@ -66,7 +66,9 @@ module _ {L : Type 0} {same : L → L → Bool} (laws : Sameness same) {T : Tabl
   held_free path (NamesHeld.no_second {p = p} q i h none) = (λ f. let (z, d, g) = transport (told_related p q i) f in none z d, λ f. absurd f)
   held_free path (NamesHeld.no_first {q = q} p i h none) = (λ f. let (z, d, g) = transport_back laws (told_related p q i) f in none z d, λ f. absurd f)
   held_free path (NamesHeld.one_hole {x = x} d e h) = let one = text d ∙ sym (text e) in (λ f. rw one at f, λ f. rw (← one) at f)
-  held_free path (NamesHeld.own_binder {p = p} y i e) = (binder_not_free (filled_part (filled T θ) y) (filled_piece T θ (rising ready) p y i) e, λ f. absurd f)
+  held_free path (NamesHeld.own_binder {p = p} {a = a} {c = c} e) =
+      let y = inside a c in
+      (binder_not_free (filled_part (filled T θ) y) (filled_piece T θ (rising ready) p y (bind_inside (T.form p) a c e)) refl, λ f. absurd f)
   held_free path (NamesHeld.two_binders {a = a} {b = b} y z l i j s d e) = binders_along laws Always a b path (rw (d, e) at (filled_parts _ _ y z (filled_related l) i j s))
 
   -- joined nodes are free at the same spots

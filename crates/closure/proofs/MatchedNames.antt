@@ -10,7 +10,7 @@ use Rattle.closure.specs.Closures.{Closure}
 use Rattle.closure.specs.Decision.{WellFormed}
 use Rattle.closure.specs.Names.{Node, NamesHeld, NamePart, Joined}
 use Rattle.closure.proofs.EqualNames.{name_once, name_once_back, equal_name_or_none, equal_name_or_none_back, equal_low, equal_low_back}
-use Rattle.closure.proofs.Forms.{form_parts, both_under}
+use Rattle.closure.proofs.Forms.{bind_around, form_parts, both_under}
 use Rattle.closure.proofs.Known.{known_option}
 use Rattle.closure.proofs.Relations.{Relation}
 use Rattle.closure.proofs.LinksDecided.{joined_inside}
@@ -38,7 +38,7 @@ module _ {L : Type 0} {T : Table L} {m : ℕ} {pairs : List Pair} (ready : WellF
 
   -- the name of a binder is nowhere above it
   binder_nowhere : {p a : ℕ} (y : Part ℕ) → In y (parts (T.form p)) → y.under ≡ Some a → Joined T m pairs (Node.name p a) Node.nowhere
-  binder_nowhere y i e = Closure.held (NamesHeld.own_binder y i e)
+  binder_nowhere {p = p} {a = a} y i e = Closure.held (NamesHeld.own_binder (bind_around (T.form p) y a i e))
 
   -- a relation of the names of two places, one to one, inside the closure, that misses only names that are nowhere
   pub record Matched (p q : ℕ) : Type 1 where

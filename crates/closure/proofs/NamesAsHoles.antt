@@ -1,5 +1,5 @@
 -- A table with a new hole for each name at a higher place has the parts, the links and the joined names of the table, and those misnamed places that are not higher. Assumes nothing.
-use Rattle.std.proofs.Common.{◌≡◌, ℕ, ◌+◌, ◌<◌, ◌≤◌, Bool, ltb, ◌≢◌, ◌⊎◌, List, sym, refl, ap, subst₂, inl, inr, arith}
+use Rattle.std.proofs.Common.{◌≡◌, ℕ, ◌+◌, ◌<◌, ◌≤◌, Bool, ltb, ◌≢◌, ◌⊎◌, List, sym, refl, ap, ◌∙◌, subst₂, inl, inr, arith}
 use Rattle.std.proofs.lemmas.Bool.{cond_both, ltb-true, ltb-false}
 use Rattle.recipe.specs.Common.{In}
 use Rattle.recipe.specs.Fillings.{Pair}
@@ -51,7 +51,7 @@ module _ {L : Type 0} {p q : ℕ} where
 
 module _ {L : Type 0} (p : ℕ) {T : Table L} where
   holes_over : SameParts T (names_as_holes p T)
-  holes_over = record { size = refl; at = λ q. parts_as (as_hole p q (T.form q)); kinds = λ q y. kind_as (as_hole p q (T.form q)) y; holes = λ q r h d e. inr (h, ap (name_as_hole p q) d, ap (name_as_hole p r) e) }
+  holes_over = record { size = refl; at = λ q. parts_as (as_hole p q (T.form q)); kinds = λ q y. kind_as (as_hole p q (T.form q)) y; binds = λ q a c e. ap (name_as_hole p q) e; holes = λ q r h d e. inr (h, ap (name_as_hole p q) d, ap (name_as_hole p r) e) }
 
   -- what can be matched in a table can be with names as holes
   pub holes_well_formed : {m : ℕ} {pairs : List Pair} → WellFormed T m pairs → WellFormed (names_as_holes p T) m pairs
@@ -64,6 +64,7 @@ module _ {L : Type 0} (p : ℕ) {T : Table L} where
       size = refl;
       at = λ q. sym (parts_as (as_hole p q (T.form q)));
       kinds = λ q y i. sym (kind_as (as_hole p q (T.form q)) y (rw (parts_as (as_hole p q (T.form q))) i));
+      binds = λ q a c e. solid_as (as_hole p q (T.form q)) (λ k. let bind : 4 ≡ 3 = ap kind_of (sym e) ∙ k in omega arith) ∙ e;
       holes = λ q r h d e. elim (hole_as (as_hole p q (T.form q)) d) [
         | inl old ↦ elim (hole_as (as_hole p r (T.form r)) e) [ inl also ↦ inr (h, old, also) | inr new ↦ let low = holes q h old in absurd (omega arith) ]
         | inr new ↦ elim (hole_as (as_hole p r (T.form r)) e) [ inl old ↦ let low = holes r h old in absurd (omega arith) | inr also ↦ inl (omega arith) ]

@@ -10,7 +10,7 @@ use Rattle.closure.specs.Decision.{WellFormed}
 use Rattle.closure.specs.Names.{Node, NamesHeld, NamePart, Joined}
 use Rattle.closure.proofs.ClosureDecided.{Bounded, carried_inside, carried_decided}
 use Rattle.closure.proofs.EqualNames.{equal_decided, equal_name_or_none, equal_name_or_none_back}
-use Rattle.closure.proofs.Forms.{form_parts, step_low, one_at_step, known_one_hole, holder_inside, form_inside}
+use Rattle.closure.proofs.Forms.{form_parts, step_low, one_at_step, known_one_hole, known_bind, holder_inside, form_inside, bind_low}
 use Rattle.closure.proofs.Growing.{numbers, in_numbers, couples, in_couples}
 use Rattle.closure.proofs.Known.{Known, known_same, known_both, known_either, known_not, known_option, Among, known_among, known_in, known_pair, known_below}
 
@@ -46,7 +46,7 @@ module _ {L : Type 0} {T : Table L} {m : ℕ} {pairs : List Pair} (ready : WellF
   -- what holds two nodes, by the nodes
   abbrev HeldBy : Node → Node → Type 0
   HeldBy Node.nowhere v = ⊥
-  HeldBy (Node.name p x) Node.nowhere = (NoSecond p x ⊎ NoFirst p x) ⊎ Among (parts (T.form p)) (λ y. y.under ≡ Some x)
+  HeldBy (Node.name p x) Node.nowhere = (NoSecond p x ⊎ NoFirst p x) ⊎ ((c : ℕ) × (T.form p ≡ Form.bind x c))
   HeldBy (Node.name p x) (Node.name q y) =
       ((In (p, q) pairs × (((x < m) × (y < m)) × NameEqual (scope T p) x (scope T q) y)) ⊎ (((x ≡ y) × (x < m)) × ((h : ℕ) × (T.form p ≡ Form.hole h) × (T.form q ≡ Form.hole h)))) ⊎ Binders p x q y
 
@@ -57,7 +57,7 @@ module _ {L : Type 0} {T : Table L} {m : ℕ} {pairs : List Pair} (ready : WellF
       (known_either
       (known_among pairs (λ w. known_both (cases_eq w.0 p) (known_both (known_below x m) (none_decided (equal_name_or_none (scope T w.0) (scope T w.1) x)))))
       (known_among pairs (λ w. known_both (cases_eq w.1 p) (known_both (known_below x m) (none_decided (equal_name_or_none_back (scope T w.0) (scope T w.1) x))))))
-      (known_among (parts (T.form p)) (λ y. known_option y.under (Some x)))
+      (known_bind x (T.form p))
   held_by_decided (Node.name p x) (Node.name q y) =
       known_either
       (known_either
@@ -71,7 +71,7 @@ module _ {L : Type 0} {T : Table L} {m : ℕ} {pairs : List Pair} (ready : WellF
   held_by (NamesHeld.no_second {p = p} q i h n) = inl (inl ((p, q), i, (refl, (h, n))))
   held_by (NamesHeld.no_first {q = q} p i h n) = inl (inr ((p, q), i, (refl, (h, n))))
   held_by (NamesHeld.one_hole {h = h} d e k) = inl (inr ((refl, k), (h, d, e)))
-  held_by (NamesHeld.own_binder y i e) = inr (y, i, e)
+  held_by (NamesHeld.own_binder {c = c} e) = inr (c, e)
   held_by (NamesHeld.two_binders {p = p} {q = q} y z l i j e f g) =
       inr (p, in_numbers T.size p (holder_inside ready p y i), (q, in_numbers T.size q (holder_inside ready q z j), (y, i, (z, j, (l, (e, ((f, g), (refl, refl))))))))
 
@@ -79,7 +79,7 @@ module _ {L : Type 0} {T : Table L} {m : ℕ} {pairs : List Pair} (ready : WellF
   by_held Node.nowhere v h = absurd h
   by_held (Node.name p x) Node.nowhere (inl (inl (w, i, (e, (h, n))))) = rw (← e) (NamesHeld.no_second w.1 i h n)
   by_held (Node.name p x) Node.nowhere (inl (inr (w, i, (e, (h, n))))) = rw (← e) (NamesHeld.no_first w.0 i h n)
-  by_held (Node.name p x) Node.nowhere (inr (y, i, e)) = NamesHeld.own_binder y i e
+  by_held (Node.name p x) Node.nowhere (inr (c, e)) = NamesHeld.own_binder e
   by_held (Node.name p x) (Node.name q y) (inl (inl (i, ((h, k), e)))) = NamesHeld.told i h k e
   by_held (Node.name p x) (Node.name q y) (inl (inr ((e, k), (h, d, f)))) = rw (← e) (NamesHeld.one_hole d f k)
   by_held (Node.name c a) (Node.name d b) (inr (p, hp, (q, hq, (y, i, (z, j, (l, (e, ((f, g), (at, to))))))))) = rw (← at, ← to) (NamesHeld.two_binders y z l i j e f g)
@@ -119,7 +119,7 @@ module _ {L : Type 0} {T : Table L} {m : ℕ} {pairs : List Pair} (ready : WellF
   held_low (NamesHeld.no_second q i h n) = let t = ready.told _ _ i in ((t.0, h), tt)
   held_low (NamesHeld.no_first p i h n) = let t = ready.told _ _ i in ((t.1, h), tt)
   held_low (NamesHeld.one_hole d e k) = ((form_inside ready _ (λ n. cc), k), (form_inside ready _ (λ n. cc), k))
-  held_low (NamesHeld.own_binder y i e) = ((holder_inside ready _ y i, ready.binders _ _ y i e), tt)
+  held_low (NamesHeld.own_binder e) = (bind_low ready _ _ _ e, tt)
   held_low (NamesHeld.two_binders y z l i j e f g) = (((ready.ordered.rising _ y i).1, ready.binders _ _ y i f), ((ready.ordered.rising _ z j).1, ready.binders _ _ z j g))
 
   part_low : {u c : Node} {s : ℕ} → NamePart T u s c → Low u → Low c

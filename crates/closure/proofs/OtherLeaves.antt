@@ -79,6 +79,10 @@ module _ {L M : Type 0} where
   alike_name SameForm.names e = cc
   alike_name a e = cc
 
+  alike_bind : {f : Form L} {g : Form M} {a c : ℕ} → SameForm f g → f ≡ Form.bind a c → g ≡ Form.bind a c
+  alike_bind SameForm.binds e = cc
+  alike_bind s e = cc
+
   pub alike_hole : {f : Form L} {g : Form M} {h : ℕ} → SameForm f g → f ≡ Form.hole h → g ≡ Form.hole h
   alike_hole SameForm.holes e = cc
   alike_hole a e = cc
@@ -121,7 +125,7 @@ module _ {L M : Type 0} {same : L → L → Bool} {other : M → M → Bool} {T 
   }
 
   same_parts : SameParts T U
-  same_parts = record { size = alike.size; at = λ p. alike_parts (alike.forms p); kinds = λ p y i. alike_kind (alike.forms p); holes = λ p q h d e. inr (h, alike_hole (alike.forms p) d, alike_hole (alike.forms q) e) }
+  same_parts = record { size = alike.size; at = λ p. alike_parts (alike.forms p); kinds = λ p y i. alike_kind (alike.forms p); binds = λ p a c. alike_bind (alike.forms p); holes = λ p q h d e. inr (h, alike_hole (alike.forms p) d, alike_hole (alike.forms q) e) }
 
   same_kind : (p : ℕ) → kind_of (T.form p) ≡ kind_of (U.form p)
   same_kind p = alike_kind (alike.forms p)

@@ -13,11 +13,12 @@ use Rattle.closure.specs.Causes.{Misnamed}
 use Rattle.closure.specs.Decision.{SpoiledAmong, WellFormed}
 use Rattle.closure.specs.Names.{Node, NamesHeld, NamePart, Joined}
 
--- the second table has the size and the parts of the first, a place with parts is of one kind in both, and places of one hole in the first are one place or of one hole in the second
+-- the second table has the size, the parts and the binds of the first, and the kind of each place with parts; places of one hole in the first are one place or of one hole in the second
 pub record SameParts {L M : Type 0} (T : Table L) (U : Table M) : Type 0 where
   pub size : T.size ≡ U.size
   pub at : (p : ℕ) → parts (T.form p) ≡ parts (U.form p)
   pub kinds : (p : ℕ) (y : Part ℕ) → In y (parts (T.form p)) → kind_of (T.form p) ≡ kind_of (U.form p)
+  pub binds : (p a c : ℕ) → T.form p ≡ Form.bind a c → U.form p ≡ Form.bind a c
   pub holes : (p q h : ℕ) → T.form p ≡ Form.hole h → T.form q ≡ Form.hole h → (p ≡ q) ⊎ ((k : ℕ) × (U.form p ≡ Form.hole k) × (U.form q ≡ Form.hole k))
 
 module _ {L M : Type 0} {T : Table L} {U : Table M} (alike : SameParts T U) where
@@ -83,7 +84,7 @@ module _ {L M : Type 0} {T : Table L} {U : Table M} (alike : SameParts T U) wher
       held_over (NamesHeld.no_first {q = q} p i h none) = Closure.held (NamesHeld.no_first p i h (λ x. rw (same_scope p, same_scope q) at (none x)))
       held_over (NamesHeld.one_hole {p = p} {q = q} {h = h} {x = x} d e l) =
           elim (alike.holes p q h d e) [ inl s ↦ rw s Closure.itself | inr o ↦ Closure.held (NamesHeld.one_hole o.1 o.2 l) ]
-      held_over (NamesHeld.own_binder y i e) = Closure.held (NamesHeld.own_binder y (part_over _ y i) e)
+      held_over (NamesHeld.own_binder e) = Closure.held (NamesHeld.own_binder (alike.binds _ _ _ e))
       held_over (NamesHeld.two_binders y z l i j s d e) = Closure.held (NamesHeld.two_binders y z (linked_over l) (part_over _ y i) (part_over _ z j) s d e)
 
       pub joined_over : {u v : Node} → Joined T m pairs u v → Joined U m pairs u v

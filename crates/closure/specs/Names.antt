@@ -22,8 +22,8 @@ pub data NamesHeld {L : Type 0} (T : Table L) (m : ℕ) (pairs : List Pair) : No
   no_first : {q y : ℕ} (p : ℕ) → In (p, q) pairs → y < m → ((x : ℕ) → NameEqual (scope T p) x (scope T q) y → ⊥) → NamesHeld T m pairs (Node.name q y) Node.nowhere
   -- one name at two places of one hole
   one_hole : {p q h x : ℕ} → T.form p ≡ Form.hole h → T.form q ≡ Form.hole h → x < m → NamesHeld T m pairs (Node.name p x) (Node.name q x)
-  -- the name of a binder is not free above it
-  own_binder : {p a : ℕ} (y : Part ℕ) → In y (parts (T.form p)) → y.under ≡ Some a → NamesHeld T m pairs (Node.name p a) Node.nowhere
+  -- the name of a bind is not free at the bind
+  own_binder : {p a c : ℕ} → T.form p ≡ Form.bind a c → NamesHeld T m pairs (Node.name p a) Node.nowhere
   -- the names of two binders, below them, where the places are linked
   two_binders : {p q a b : ℕ} (y z : Part ℕ) → Linked T pairs p q → In y (parts (T.form p)) → In z (parts (T.form q)) → y.step ≡ z.step → y.under ≡ Some a → z.under ≡ Some b → NamesHeld T m pairs (Node.name y.at a) (Node.name z.at b)
 

@@ -2,12 +2,12 @@
 use Rattle.std.proofs.Common.{◌≡◌, ℕ, suc, ◌+◌, ◌*◌, ◌<◌, ◌⊎◌, List, length, Some, None, Option, refl, sym, ◌∙◌, inl, inr, arith}
 use Rattle.std.proofs.lemmas.Bool.{cases_lt}
 use Rattle.std.proofs.lemmas.Option.{none-some}
-use Rattle.recipe.specs.Common.{In}
 use Rattle.recipe.specs.Fillings.{Pair}
-use Rattle.recipe.specs.Recipes.{Part}
-use Rattle.recipe.specs.Tables.{Form, Table, parts}
+use Rattle.recipe.specs.Recipes.{inside}
+use Rattle.recipe.specs.Tables.{Form, Table}
 use Rattle.closure.specs.Closures.{Closure}
 use Rattle.closure.specs.Names.{NamesHeld, Node}
+use Rattle.closure.proofs.Forms.{bind_inside}
 use Rattle.forest.specs.Exact.{OneMore}
 use Rattle.nodes.specs.NameClasses.{InTable, NumbersJoined, node_number}
 use Rattle.nodes.specs.NameSteps.{BinderBelow, BindersFew, NamesAlways, binder_of_form}
@@ -16,31 +16,15 @@ use Rattle.nodes.proofs.FirstRows.{form_written}
 use Rattle.nodes.proofs.NamesMore.{names_more, names_said}
 
 module _ {L : Type 0} where
-  -- a form with a binder has a part under it
-  pub bound_part : (f : Form L) (a : ℕ) → binder_of_form f ≡ Some a → (y : Part ℕ) × In y (parts f) × (y.under ≡ Some a)
-  bound_part Form.nil a e = absurd (none-some a e)
-  bound_part (Form.leaf l) a e = absurd (none-some a e)
-  bound_part (Form.name x) a e = absurd (none-some a e)
-  bound_part (Form.hole h) a e = absurd (none-some a e)
-  bound_part (Form.bind b c) a e = (record { step = 2; at = c; under = Some b }, inl refl, e)
-  bound_part (Form.call c d) a e = absurd (none-some a e)
-
-  -- and a part under a binder is of such a form
-  pub part_bound : (f : Form L) (a : ℕ) (y : Part ℕ) → In y (parts f) → y.under ≡ Some a → binder_of_form f ≡ Some a
-  part_bound Form.nil a y i e = absurd i
-  part_bound (Form.leaf l) a y i e = absurd i
-  part_bound (Form.name x) a y i e = absurd i
-  part_bound (Form.hole h) a y i e = absurd i
-  part_bound (Form.bind b c) a y (inl is) e = rw is at e
-  part_bound (Form.bind b c) a y (inr i) e = absurd i
-  part_bound (Form.call c d) a y (inl is) e = absurd (none-some a (rw is at e))
-  part_bound (Form.call c d) a y (inr (inl is)) e = absurd (none-some a (rw is at e))
-  part_bound (Form.call c d) a y (inr (inr i)) e = absurd i
+  -- a form with a binder is a bind
+  bound_form : (f : Form L) (a : ℕ) → binder_of_form f ≡ Some a → (c : ℕ) × (f ≡ Form.bind a c)
+  bound_form (Form.bind b c) a e = (c, cc)
+  bound_form f a e = absurd (cc)
 
 module _ {L : Type 0} (T : Table L) (m : ℕ) where
   -- so the name of a bind is below m
   pub binder_few : BindersFew T m → (p x : ℕ) → binder_of_form (T.form p) ≡ Some x → x < m
-  binder_few few p x here = let (y, i, e) = bound_part (T.form p) x here in few p x y i e
+  binder_few few p x here = let (c, is) = bound_form (T.form p) x here in few p x (inside x c) (bind_inside (T.form p) x c is) refl
 
   module _ (p : ℕ) where
     below_skip : binder_of_form (T.form p) ≡ None → (a b : Node) → BinderBelow T (p + 1) a b → BinderBelow T p a b
@@ -64,15 +48,14 @@ module _ {L : Type 0} (T : Table L) (m : ℕ) where
 
     own_joined : BindersFew T m → (x : ℕ) → p < T.size → binder_of_form (T.form p) ≡ Some x → (told : List Pair) → NumbersJoined T m told (suc (p * m + x)) 0
     own_joined few x low here told =
-        let (y, i, e) = bound_part (T.form p) x here in
         record {
           first = Node.name p x;
           second = Node.nowhere;
-          first_in = InTable.name low (few p x y i e);
+          first_in = InTable.name low (binder_few few p x here);
           second_in = InTable.nowhere;
           first_is = refl;
           second_is = refl;
-          joined = Closure.held (NamesHeld.own_binder y i e);
+          joined = Closure.held (NamesHeld.own_binder (bound_form (T.form p) x here).1);
         }
 
     -- the name of a bind, joined with nowhere

@@ -1,17 +1,15 @@
 -- Joining the names at each place of a hole with those at the lowest place of the hole. Assumes nothing.
-use Rattle.std.proofs.Common.{◌≡◌, ℕ, zero, suc, ◌+◌, ◌*◌, ◌<◌, ◌⊎◌, List, [], ◌++◌, length, refl, sym, ap, ◌∙◌, inl, inr, add-one, arith}
+use Rattle.std.proofs.Common.{◌≡◌, ℕ, zero, suc, ◌+◌, ◌*◌, ◌<◌, ◌⊎◌, List, ◌++◌, length, refl, sym, ap, ◌∙◌, inl, inr, add-one, arith}
 use Rattle.std.proofs.lemmas.Bool.{cases_lt, cond_above}
 use Rattle.recipe.specs.Common.{In, Least}
 use Rattle.recipe.specs.Fillings.{Pair}
-use Rattle.recipe.specs.Recipes.{Part}
-use Rattle.recipe.specs.Tables.{Form, Table, parts}
+use Rattle.recipe.specs.Tables.{Form, Table}
 use Rattle.closure.specs.Closures.{Closure}
 use Rattle.closure.specs.Names.{NamesHeld, Node}
 use Rattle.forest.specs.Exact as forest
 use Rattle.nodes.specs.NameClasses.{InTable, NumbersJoined, name_parts, node_number}
-use Rattle.nodes.specs.NameSteps.{BinderBelow, HeldAlways, NamesAlways, PairsMore, same_names}
+use Rattle.nodes.specs.NameSteps.{BinderBelow, HeldAlways, NamesAlways, PairsMore, binder_of_form, same_names}
 use Rattle.nodes.specs.Records.{written, written_form}
-use Rattle.nodes.proofs.BindersHidden.{part_bound}
 use Rattle.nodes.proofs.FirstRows.{form_written}
 use Rattle.nodes.proofs.NamesMore.{names_many, names_said}
 
@@ -127,11 +125,8 @@ module _ (n : ℕ) (ws : List ℕ) where
         lowest = λ k e. least.lowest k (hole_inside k h e).1;
       }
 
-  bound_inside : (p a : ℕ) (y : Part ℕ) → In y (parts ((written n ws).form p)) → p < n
-  bound_inside p a y i = (form_inside p (λ f. let none : In y [] = rw f at i in none)).0
-
   always_below : (m : ℕ) (a b : Node) → HeldAlways (written n ws) m a b → BindersAndBelow (written n ws) m n a b
-  always_below m a b (HeldAlways.own_binder {p = p} {a = x} y i e) = inl (BinderBelow.own (bound_inside p x y i) (part_bound ((written n ws).form p) x y i e))
+  always_below m a b (HeldAlways.own_binder {p = p} e) = inl (BinderBelow.own (form_inside p (λ f. cc)).0 (ap binder_of_form e))
   always_below m a b (HeldAlways.one_hole {p = p} {q = q} {h = h} d e few) = inr (HoleBelow.pair (hole_inside p h d).0 (hole_inside q h e).0 d e few)
 
   -- at the end all that binders and holes say is done

@@ -6,7 +6,7 @@ use Rattle.recipe.specs.Tables.{Form, Table}
 use Rattle.closure.specs.Closures.{Closure}
 use Rattle.closure.specs.Decision.{WellFormed}
 use Rattle.closure.specs.Names.{Joined, NamePart, NamesHeld, Node}
-use Rattle.closure.proofs.Forms.{form_inside, holder_inside}
+use Rattle.closure.proofs.Forms.{bind_low, form_inside}
 use Rattle.forest.specs.Exact as forest
 use Rattle.forest.specs.Rows.{IsNode}
 use Rattle.nodes.specs.NameClasses.{InTable, NamesJoined, NumbersJoined, RootsJoin, name_parts, node_number}
@@ -26,7 +26,7 @@ module _ {L : Type 0} (T : Table L) (m : ℕ) (told : List Pair) (formed : WellF
   held_inside (NamesHeld.no_second {p = p} q i low none) = let (one, two, even) = formed.told p q i in (InTable.name one low, InTable.nowhere)
   held_inside (NamesHeld.no_first {q = q} p i low none) = let (one, two, even) = formed.told p q i in (InTable.name two low, InTable.nowhere)
   held_inside (NamesHeld.one_hole {p = p} {q = q} {h = h} d e low) = (InTable.name (hole_inside p h d) low, InTable.name (hole_inside q h e) low)
-  held_inside (NamesHeld.own_binder {p = p} {a = a} y i e) = (InTable.name (holder_inside formed p y i) (formed.binders p a y i e), InTable.nowhere)
+  held_inside (NamesHeld.own_binder {p = p} {a = a} {c = c} e) = let (low, few) = bind_low formed p a c e in (InTable.name low few, InTable.nowhere)
   held_inside (NamesHeld.two_binders {p = p} {q = q} {a = a} {b = b} y z l i j s e f) =
       (InTable.name (formed.ordered.rising p y i).1 (formed.binders p a y i e), InTable.name (formed.ordered.rising q z j).1 (formed.binders q b z j f))
 

@@ -27,7 +27,7 @@ module _ {L : Type 0} (T : Table L) (m : ℕ) where
   first_cases _ _ (NamesHeld.no_second q i low none) = absurd i
   first_cases _ _ (NamesHeld.no_first p i low none) = absurd i
   first_cases _ _ (NamesHeld.one_hole d e low) = inl (HeldAlways.one_hole d e low)
-  first_cases _ _ (NamesHeld.own_binder y i e) = inl (HeldAlways.own_binder y i e)
+  first_cases _ _ (NamesHeld.own_binder e) = inl (HeldAlways.own_binder e)
   first_cases _ _ (NamesHeld.two_binders y z l i j s e f) = inr (TwoBinders.two_binders y z l i j s e f)
 
   pub names_opened : {old new : List ℕ} → NamesAlways T m (HeldAlways T m) old → TiesBinders T m [] old new → length new ≡ length old → NamesJoined T m [] new
@@ -57,7 +57,7 @@ module _ {L : Type 0} (T : Table L) (m : ℕ) (told : List Pair) (p q : ℕ) whe
     | inr f ↦ inl (inr (said_of f (HeldByPair.no_first low none)))
   ]
   held_cases _ _ (NamesHeld.one_hole d e low) = inl (inl (NamesHeld.one_hole d e low))
-  held_cases _ _ (NamesHeld.own_binder y i e) = inl (inl (NamesHeld.own_binder y i e))
+  held_cases _ _ (NamesHeld.own_binder e) = inl (inl (NamesHeld.own_binder e))
   held_cases _ _ (NamesHeld.two_binders y z l i j s e f) = inr (TwoBinders.two_binders y z l i j s e f)
 
   -- so with the names of the pair and the binders of linked binds all that is held is joined

@@ -116,7 +116,7 @@ module _ {L : Type 0} (T : Table L) (m : ℕ) (told : List Pair) (w : Pair) wher
   held_more a b (NamesHeld.no_second {p = p} q i low none) = NamesHeld.no_second q (in_first (p, q) w told i) low none
   held_more a b (NamesHeld.no_first {q = q} p i low none) = NamesHeld.no_first p (in_first (p, q) w told i) low none
   held_more a b (NamesHeld.one_hole d e low) = NamesHeld.one_hole d e low
-  held_more a b (NamesHeld.own_binder y i e) = NamesHeld.own_binder y i e
+  held_more a b (NamesHeld.own_binder e) = NamesHeld.own_binder e
   held_more a b (NamesHeld.two_binders y z l i j s e f) = NamesHeld.two_binders y z (linked_more T told w l) i j s e f
 
   numbers_more : (u v : ℕ) → NumbersJoined T m told u v → NumbersJoined T m (told ++ (w ∷ [])) u v

@@ -54,6 +54,7 @@ module _ {L : Type 0} (number : L → Option ℕ) (places : List Place) (ls : Li
         size = refl;
         at = λ p. number_parts number (T.form p) ∙ sym (ap parts (form_written p));
         kinds = λ p y i. alike_kind (alike_numbers number (T.form p)) ∙ sym (ap kind_of (form_written p));
+        binds = λ p a c e. form_written p ∙ ap (with_numbers number) e;
         holes = λ p q h d e. inr (h, form_written p ∙ ap (with_numbers number) d, form_written q ∙ ap (with_numbers number) e);
       })
 

@@ -10,7 +10,7 @@ use Rattle.nodes.specs.NameClasses.{NamesSome}
 
 -- what the binders and holes alone say of names below m, whatever the pairs
 pub data HeldAlways {L : Type 0} (T : Table L) (m : ℕ) : Node → Node → Type 0 where
-  own_binder : {p a : ℕ} (y : Part ℕ) → In y (parts (T.form p)) → y.under ≡ Some a → HeldAlways T m (Node.name p a) Node.nowhere
+  own_binder : {p a c : ℕ} → T.form p ≡ Form.bind a c → HeldAlways T m (Node.name p a) Node.nowhere
   one_hole : {p q h x : ℕ} → T.form p ≡ Form.hole h → T.form q ≡ Form.hole h → x < m → HeldAlways T m (Node.name p x) (Node.name q x)
 
 -- a forest over names has joined what is done, whatever the told pairs
