@@ -1,4 +1,4 @@
-// A name of one place that is joined with a name of another.
+// The lowest name of one place that is joined with a name of another.
 ghost use Rattle.std.specs.Prelude.{◌≡◌, ℕ, suc, ◌+◌, ◌*◌, ◌<◌, ◌≤◌, List, length};
 ghost use Rattle.recipe.specs.Fillings.{Pair};
 ghost use Rattle.recipe.specs.Tables.{Table};
@@ -30,7 +30,7 @@ fn name_with_root(names_rows: &[u32], names: usize, p: usize, x: usize, q: usize
     None
 }
 
-// A name of `q` that is joined with the name `x` of `p`, if one is. Writes nothing.
+// The lowest name of `q` that is joined with the name `x` of `p`, if one is. Writes nothing.
 pub fn joined_name(
     names_rows: &[u32],
     size: usize,

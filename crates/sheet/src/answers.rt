@@ -27,7 +27,7 @@ pub fn is_open(memory: &[u32], size: usize, names: usize, p: usize) -> bool
     non_hole(memory, size, names, p).is_none()
 }
 
-// A name of `q` that is joined with the name `x` of `p`, if one is.
+// The lowest name of `q` that is joined with the name `x` of `p`, if one is.
 pub fn joined_name(
     memory: &[u32],
     size: usize,
