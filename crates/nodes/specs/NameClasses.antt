@@ -60,3 +60,8 @@ NamesJoined T m told = NamesSome T m told (NamesHeld T m told)
 abbrev pub RootsJoin : {L : Type 0} → Table L → ℕ → List Pair → List ℕ → Type 0
 RootsJoin T m told rows =
     (a b : Node) → InTable T m a → InTable T m b → (root rows (node_number m a) ≡ root rows (node_number m b)) ↔ Joined T m told a b
+
+-- they do so for some table of this size, and some told pairs
+abbrev pub SomeRootsJoin : ℕ → ℕ → List ℕ → Type 0
+SomeRootsJoin size m rows =
+    (T : Table ℕ) × (told : List Pair) × (T.size ≡ size) × RootsJoin T m told rows

@@ -22,10 +22,18 @@ pub record PlacesJoined {L : Type 0} (T : Table L) (told : List Pair) (rows : Li
   pub tells : (p q : ℕ) → In (p, q) told → Joined (place_parts T) pairs p q
   pub holes : (p q h : ℕ) → T.form p ≡ Form.hole h → T.form q ≡ Form.hole h → Joined (place_parts T) pairs p q
 
+-- it is so for some told pairs
+abbrev pub SomePlacesJoined : {L : Type 0} → Table L → List ℕ → Type 0
+SomePlacesJoined T rows = (told : List Pair) × PlacesJoined T told rows
+
 -- so two places have one root exactly if they are linked
 abbrev pub RootsLink : {L : Type 0} → Table L → List Pair → List ℕ → Type 0
 RootsLink T told rows =
     (p q : ℕ) → p < T.size → q < T.size → (root rows p ≡ root rows q) ↔ Linked T told p q
+
+-- they are so for some told pairs
+abbrev pub SomeRootsLink : {L : Type 0} → Table L → List ℕ → Type 0
+SomeRootsLink T rows = (told : List Pair) × RootsLink T told rows
 
 -- one tell more, whatever the table and the tells so far
 abbrev pub TellsMore : ℕ → ℕ → List ℕ → List ℕ → Type 0

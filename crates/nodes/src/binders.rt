@@ -6,7 +6,7 @@ ghost use Rattle.forest.specs.Rows.{Rows};
 ghost use Rattle.nodes.specs.Binders.{TiesBinders};
 ghost use Rattle.nodes.specs.BoundNumbers.{BindFew, bound_number};
 ghost use Rattle.nodes.specs.NameSteps.{BindersFew, IsExact};
-ghost use Rattle.nodes.specs.PlaceClasses.{RootsLink};
+ghost use Rattle.nodes.specs.PlaceClasses.{RootsLink, SomeRootsLink};
 ghost use Rattle.nodes.specs.Records.{HasRows, written, written_form};
 
 use crate::names::node_of;
@@ -50,6 +50,7 @@ pub fn tie_binders(
     requires binders { BindersFew (written size words.now) names }
     requires room { size ≤ length marks.old }
     requires exact { IsExact names_rows.old }
+    requires roots { SomeRootsLink (written size words.now) rows.now }
     ensures { (told : List Pair) → RootsLink (written size words.now) told rows.now → TiesBinders (written size words.now) names told names_rows.old names_rows.new }
 {
     marks.fill(0);

@@ -6,7 +6,7 @@ ghost use Rattle.recipe.specs.Links.{Differ, kind_of};
 ghost use Rattle.nodes.specs.Clashes.{FindsClash};
 ghost use Rattle.nodes.specs.Opposed.{HasRow, Marked, Opposed, SomeOpposed, marked_for};
 ghost use Rattle.nodes.specs.Searches.{LowestBelow};
-ghost use Rattle.nodes.specs.PlaceClasses.{PlacesJoined, RootsLink};
+ghost use Rattle.nodes.specs.PlaceClasses.{PlacesJoined, RootsLink, SomePlacesJoined};
 ghost use Rattle.nodes.specs.Records.{HasRows, written, written_form};
 
 use forest::find;
@@ -56,6 +56,7 @@ fn search_clash(rows: &[u32], words: &[u32], size: usize) -> Option<(usize, usiz
     requires forest { Rows rows.now }
     requires long { length rows.now ≡ 4 * size }
     requires rows { HasRows size words.now }
+    requires joined { SomePlacesJoined (written size words.now) rows.now }
     ensures { (told : _) → PlacesJoined (written size words.now) told rows.now → RootsLink (written size words.now) told rows.now → FindsClash (written size words.now) told result }
 {
     for p in 0..size {
@@ -127,6 +128,7 @@ pub fn find_clash(
     requires long { length rows.now ≡ 4 * size }
     requires rows { HasRows size words.now }
     requires room { size ≤ length marks.old }
+    requires joined { SomePlacesJoined (written size words.now) rows.now }
     ensures { (told : _) → PlacesJoined (written size words.now) told rows.now → RootsLink (written size words.now) told rows.now → FindsClash (written size words.now) told result }
 {
     if !has_clash(rows, words, size, marks) {

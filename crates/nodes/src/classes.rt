@@ -3,7 +3,7 @@ ghost use Rattle.std.specs.Prelude.{◌≡◌, ◌*◌, ◌<◌, ◌≤◌, leng
 ghost use Rattle.forest.specs.Rows.{Rows};
 ghost use Rattle.nodes.specs.NonHoles.{FindsNonHole, NonHoleMate};
 ghost use Rattle.nodes.specs.Searches.{LowestBelow};
-ghost use Rattle.nodes.specs.PlaceClasses.{PlacesJoined, RootsLink};
+ghost use Rattle.nodes.specs.PlaceClasses.{PlacesJoined, RootsLink, SomePlacesJoined};
 ghost use Rattle.nodes.specs.Records.{HasRows, written};
 
 use crate::clash::kind_at;
@@ -34,6 +34,7 @@ pub fn non_hole(rows: &[u32], words: &[u32], size: usize, p: usize) -> Option<us
     requires long { length rows.now ≡ 4 * size }
     requires rows { HasRows size words.now }
     requires place { p < size }
+    requires joined { SomePlacesJoined (written size words.now) rows.now }
     ensures { (told : _) → PlacesJoined (written size words.now) told rows.now → RootsLink (written size words.now) told rows.now → FindsNonHole (written size words.now) told p result }
 {
     non_hole_mate(rows, words, size, p)

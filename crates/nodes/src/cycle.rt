@@ -3,7 +3,7 @@ ghost use Rattle.std.specs.Prelude.{◌≡◌, ℕ, ◌*◌, ◌<◌, ◌≤◌,
 ghost use Rattle.recipe.specs.Fillings.{Pair};
 ghost use Rattle.recipe.specs.Tables.{Form, Table};
 ghost use Rattle.forest.specs.Rows.{IsNode, Rows};
-ghost use Rattle.nodes.specs.Cycles.{FindsCycle};
+ghost use Rattle.nodes.specs.Cycles.{FindsCycle, SomeTableJoined};
 ghost use Rattle.nodes.specs.Searches.{AllMiss, AllPassed, Leads, LowestBelow, Misses, NoneReturns, OnWay, RootReturns, SomeCycle};
 ghost use Rattle.nodes.specs.PlaceClasses.{PlacesJoined, RootsLink};
 
@@ -120,6 +120,7 @@ pub fn find_cycle(rows: &[u32], size: usize, marks: &mut [u32]) -> Option<usize>
     requires forest { Rows rows.now }
     requires long { length rows.now ≡ 4 * size }
     requires room { size ≤ length marks.old }
+    requires joined { SomeTableJoined size rows.now }
     ensures { (T : Table ℕ) (told : List Pair) → T.size ≡ size → ((p : ℕ) → T.size ≤ p → T.form p ≡ Form.nil) → PlacesJoined T told rows.now → RootsLink T told rows.now → FindsCycle T told result }
 {
     if !has_cycle(rows, size, marks) {

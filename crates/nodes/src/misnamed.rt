@@ -5,7 +5,7 @@ ghost use Rattle.recipe.specs.Tables.{Form};
 ghost use Rattle.closure.specs.Decision.{WellFormed};
 ghost use Rattle.forest.specs.Rows.{IsNode, Rows};
 ghost use Rattle.nodes.specs.MisnamedRoots.{ApartFrom, DoubleRoot, MarkedNames, MisnamedRoot, NamesBelow, SpoiledRoot, name_of_form, name_root};
-ghost use Rattle.nodes.specs.Misnaming.{FindsMisnamed};
+ghost use Rattle.nodes.specs.Misnaming.{FindsMisnamed, SomeRoots};
 ghost use Rattle.nodes.specs.NameClasses.{RootsJoin};
 ghost use Rattle.nodes.specs.Opposed.{HasRow};
 ghost use Rattle.nodes.specs.PlaceClasses.{RootsLink};
@@ -235,6 +235,7 @@ pub fn find_misnamed(
     requires rows { HasRows size words.now }
     requires room { size ≤ length marks.old }
     requires named { (p x : ℕ) → (written size words.now).form p ≡ Form.name x → x < names }
+    requires roots { SomeRoots (written size words.now) names rows.now names_rows.now }
     ensures { (told : List Pair) → WellFormed (written size words.now) names told → RootsLink (written size words.now) told rows.now → RootsJoin (written size words.now) names told names_rows.now → FindsMisnamed (written size words.now) names told result }
 {
     search_misnamed(names_rows, rows, words, size, names, marks)

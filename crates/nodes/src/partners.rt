@@ -5,7 +5,7 @@ ghost use Rattle.recipe.specs.Tables.{Table};
 ghost use Rattle.forest.specs.Rows.{Rows};
 ghost use Rattle.nodes.specs.JoinedNames.{FindsJoined};
 ghost use Rattle.nodes.specs.MisnamedRoots.{name_root};
-ghost use Rattle.nodes.specs.NameClasses.{RootsJoin};
+ghost use Rattle.nodes.specs.NameClasses.{RootsJoin, SomeRootsJoin};
 ghost use Rattle.nodes.specs.Searches.{LowestBelow};
 
 use crate::misnamed::root_of_name;
@@ -46,6 +46,7 @@ pub fn joined_name(
     requires first { p < size }
     requires second { q < size }
     requires name { x < names }
+    requires roots { SomeRootsJoin size names names_rows.now }
     ensures { (T : Table ℕ) (told : List Pair) → T.size ≡ size → RootsJoin T names told names_rows.now → FindsJoined T names told p x q result }
 {
     name_with_root(names_rows, names, p, x, q)

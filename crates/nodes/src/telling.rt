@@ -6,10 +6,10 @@ ghost use Rattle.recipe.specs.Tables.{Form};
 ghost use Rattle.recipe.specs.Tells.{Decided};
 ghost use Rattle.recipe.specs.Validity.{Ordered};
 ghost use Rattle.closure.specs.Decision.{HolesBelow, WellFormed};
-ghost use Rattle.nodes.specs.Entering.{DecidedByPlaces, Entered, SomeEntered};
+ghost use Rattle.nodes.specs.Entering.{DecidedByPlaces, Entered, EnteredBefore, NamesBehind, PlacesEntered, SomeEntered};
 ghost use Rattle.nodes.specs.HoldersWritten.{HoldersWritten};
 ghost use Rattle.nodes.specs.NameClasses.{NamesJoined};
-ghost use Rattle.nodes.specs.NameSteps.{BindersFew, IsExact};
+ghost use Rattle.nodes.specs.NameSteps.{BindersFew};
 ghost use Rattle.nodes.specs.PlaceClasses.{PlacesJoined, RootsLink};
 ghost use Rattle.nodes.specs.Records.{HasRows, written};
 
@@ -28,6 +28,7 @@ fn decide_places(rows: &[u32], words: &[u32], size: usize, marks: &mut [u32]) ->
     requires long { length rows.now ≡ 4 * size }
     requires rows { HasRows size words.now }
     requires room { size ≤ length marks.old }
+    requires joined { PlacesEntered (written size words.now) rows.now }
     ensures { (m : ℕ) (told : List Pair) → PlacesJoined (written size words.now) told rows.now → RootsLink (written size words.now) told rows.now → DecidedByPlaces (written size words.now) m told result }
 {
     if let Some((place, partner)) = find_clash(rows, words, size, marks) {
@@ -60,9 +61,9 @@ fn enter_names(
     requires holders { HoldersWritten size words.now }
     requires binders { BindersFew (written size words.now) names }
     requires room { size ≤ length marks.old }
-    requires exact { IsExact names_rows.old }
     requires first { p < size }
     requires second { q < size }
+    requires behind { NamesBehind (written size words.now) names p q rows.now names_rows.old }
     ensures { (told : List Pair) → RootsLink (written size words.now) (told ++ ((p, q) ∷ [])) rows.now → NamesJoined (written size words.now) names told names_rows.old → NamesJoined (written size words.now) names (told ++ ((p, q) ∷ [])) names_rows.new }
 {
     tell_names(names_rows, words, size, names, p, q);
@@ -122,7 +123,7 @@ pub fn tell_pair(
     requires named { (k x : ℕ) → (written size words.now).form k ≡ Form.name x → x < names }
     requires holes { HolesBelow (written size words.now) }
     requires room { size ≤ length marks.old }
-    requires entered { SomeEntered (written size words.now) names rows.old names_rows.old }
+    requires entered { EnteredBefore (written size words.now) names p q rows.old names_rows.old }
     requires first { p < size }
     requires second { q < size }
     ensures decided { (told : List Pair) → WellFormed (written size words.now) names (told ++ ((p, q) ∷ [])) → Entered (written size words.now) names told rows.old names_rows.old → Decided nat_eq (written size words.now) (told ++ ((p, q) ∷ [])) result }

@@ -42,11 +42,16 @@ module _ {size m : ℕ} {ws f a b r : List ℕ} (parts : Cut size m ws f a b r) 
   pub slices_solved : {told : List Pair} → 0 < size → Solved size m told ws → SlicesHold size m told f a b
   slices_solved some solved = slices_hold parts solved.few_told (solved.words some)
 
+  -- the table of the parts is well formed with one pair more
+  pub slices_ready : {told : List Pair} (p q : ℕ) → p < size → q < size → depth (written_table size ws) p ≡ depth (written_table size ws) q → Solved size m told ws → WellFormed (written_table size f) m (told ++ ((p, q) ∷ []))
+  slices_ready {told = told} p q first second depths solved =
+      subst (λ T. WellFormed T m (told ++ ((p, q) ∷ []))) (table_is parts) (ready_more _ told p q solved.ready (first, second, depths))
+
   -- the answer for the parts is the answer for the memory
   pub decided_whole : {told : List Pair} (p q : ℕ) → p < size → q < size → depth (written_table size ws) p ≡ depth (written_table size ws) q → Solved size m told ws → (answer : Result (Unit {0}) Refusal) → (SlicesHold size m told f a b → WellFormed (written_table size f) m (told ++ ((p, q) ∷ [])) → Decided nat_eq (written_table size f) (told ++ ((p, q) ∷ [])) answer) → Decided nat_eq (written_table size ws) (told ++ ((p, q) ∷ [])) answer
   decided_whole {told = told} p q first second depths solved answer decided =
       subst (λ T. Decided nat_eq T (told ++ ((p, q) ∷ [])) answer) (sym (table_is parts))
-      (decided (slices_solved (omega (arith, first)) solved) (subst (λ T. WellFormed T m (told ++ ((p, q) ∷ []))) (table_is parts) (ready_more _ told p q solved.ready (first, second, depths))))
+      (decided (slices_solved (omega (arith, first)) solved) (slices_ready p q first second depths solved))
 
 module _ {size m : ℕ} {ws f a b r vs g c d : List ℕ} (old : Cut size m ws f a b r) (new : Cut size m vs g c d r) (same : records size g ≡ records size f) where
   -- the records of the new memory are those of the old one

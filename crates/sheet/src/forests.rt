@@ -57,7 +57,7 @@ pub(crate) fn tell_copy(
 ) -> Result<(), Refusal>
     requires table { HasTable size names front.old }
     requires long { length forests.old ≡ forests_length size names }
-    requires entered { (told : List Pair) × EnteredIn (written_table size front.old) names told forests.old }
+    requires entered { (told : List Pair) × WellFormed (written_table size front.old) names (told ++ ((p, q) ∷ [])) × EnteredIn (written_table size front.old) names told forests.old }
     requires first { p < size }
     requires second { q < size }
     ensures decided { (told : List Pair) → WellFormed (written_table size front.old) names (told ++ ((p, q) ∷ [])) → EnteredIn (written_table size front.old) names told forests.old → Decided nat_eq (written_table size front.old) (told ++ ((p, q) ∷ [])) result }

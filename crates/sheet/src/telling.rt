@@ -40,7 +40,7 @@ fn decide_slices(
 ) -> Result<(), Refusal>
     requires long { length first.old ≡ forests_size size names }
     requires second_long { length second.old ≡ forests_size size names }
-    requires hold { (told : List Pair) × (length told ≡ standing) × SlicesHold size names told front.old first.old second.old }
+    requires hold { (told : List Pair) × (length told ≡ standing) × WellFormed (written_table size front.old) names (told ++ ((p, q) ∷ [])) × SlicesHold size names told front.old first.old second.old }
     requires few { standing < 512 }
     requires places { (p < size) × (q < size) }
     ensures decided { (told : List Pair) → SlicesHold size names told front.old first.old second.old → WellFormed (written_table size front.old) names (told ++ ((p, q) ∷ [])) → Decided nat_eq (written_table size front.old) (told ++ ((p, q) ∷ [])) result }

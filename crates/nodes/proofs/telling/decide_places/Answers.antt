@@ -3,6 +3,14 @@ use Rattle.nodes.proofs.CausesDecide.{clash_decides, cycle_decides}
 use Rattle.nodes.proofs.ClashesFound.{form_past}
 use Rattle.nodes.proofs.telling.decide_places.Goals as goal
 
+pub find_clash-requires-clause-joined : goal.find_clash-requires-clause-joined
+find_clash-requires-clause-joined c = let (m, told, ready, joined) = c.requires.joined in (told, joined)
+
+pub find_cycle-requires-clause-joined : goal.find_cycle-requires-clause-joined
+find_cycle-requires-clause-joined c =
+    let (m, told, ready, joined) = c.requires.joined in
+    (_, told, refl, form_past c.args.size c.args.words.now, joined)
+
 pub returns-in-Some : goal.returns-in-Some
 returns-in-Some c m told joined roots ready = clash_decides ready c.in-Some.place c.in-Some.partner (c.in-Some.ensures told joined roots)
 

@@ -1,9 +1,17 @@
 use Rattle.std.proofs.Common.{[], ◌∷◌, ◌++◌}
-use Rattle.nodes.proofs.NamesEntered.{exact_more, names_entered}
+use Rattle.nodes.proofs.NamesEntered.{exact_more, names_entered, some_exact}
 use Rattle.nodes.proofs.telling.enter_names.Goals as goal
 
+pub tell_names-requires-clause-exact : goal.tell_names-requires-clause-exact
+tell_names-requires-clause-exact c = let (told, roots, names) = c.requires.behind in some_exact _ c.args.names told names
+
 pub tie_binders-requires-clause-exact : goal.tie_binders-requires-clause-exact
-tie_binders-requires-clause-exact c = exact_more c.tell_names.ensures.pairs c.tell_names.ensures.more c.requires.exact
+tie_binders-requires-clause-exact c =
+    let (told, roots, names) = c.requires.behind in
+    exact_more c.tell_names.ensures.pairs c.tell_names.ensures.more (some_exact _ c.args.names told names)
+
+pub tie_binders-requires-clause-roots : goal.tie_binders-requires-clause-roots
+tie_binders-requires-clause-roots c = let (told, roots, names) = c.requires.behind in (told ++ ((c.args.p, c.args.q) ∷ []), roots)
 
 pub returns : goal.returns
 returns c told roots joined =

@@ -1,11 +1,12 @@
-use Rattle.nodes.proofs.NamesEntered.{some_exact}
 use Rattle.nodes.proofs.telling.enter_pair.Goals as goal
 
 pub enter_names-requires-clause-forest : goal.enter_names-requires-clause-forest
 enter_names-requires-clause-forest c = let (told, entered) = c.requires.entered in (c.tell_places.ensures _ told entered.places).0.exact.rows
 
-pub enter_names-requires-clause-exact : goal.enter_names-requires-clause-exact
-enter_names-requires-clause-exact c = let (told, entered) = c.requires.entered in some_exact _ c.args.names told entered.names
+pub enter_names-requires-clause-behind : goal.enter_names-requires-clause-behind
+enter_names-requires-clause-behind c =
+    let (told, entered) = c.requires.entered in
+    (told, (c.tell_places.ensures _ told entered.places).1, entered.names)
 
 pub returns : goal.returns
 returns c told entered =

@@ -1,11 +1,15 @@
 use Rattle.std.proofs.Common.{◌≡◌, Err, [], ◌∷◌, ◌++◌, rules}
 use Rattle.nodes.proofs.CausesDecide.{names_decide, none_decides}
 use Rattle.nodes.proofs.NamesClassed.{roots_join}
-use Rattle.nodes.proofs.NamesEntered.{some_exact}
 use Rattle.nodes.proofs.telling.tell_pair.Goals as goal
 
 pub decide_places-requires-clause-forest : goal.decide_places-requires-clause-forest
-decide_places-requires-clause-forest c = let (told, entered) = c.requires.entered in (c.tell_places.ensures _ told entered.places).0.exact.rows
+decide_places-requires-clause-forest c = let (told, ready, entered) = c.requires.entered in (c.tell_places.ensures _ told entered.places).0.exact.rows
+
+pub decide_places-requires-clause-joined : goal.decide_places-requires-clause-joined
+decide_places-requires-clause-joined c =
+    let (told, ready, entered) = c.requires.entered in
+    (c.args.names, told ++ ((c.args.p, c.args.q) ∷ []), ready, (c.tell_places.ensures _ told entered.places).0)
 
 pub returns-in_err-decide_places-clause-decided : goal.returns-in_err-decide_places-clause-decided
 returns-in_err-decide_places-clause-decided c told ready entered =
@@ -14,19 +18,28 @@ returns-in_err-decide_places-clause-decided c told ready entered =
     rw is (c.in_err-decide_places.ensures c.args.names (told ++ ((c.args.p, c.args.q) ∷ [])) places roots ready)
 
 pub enter_names-requires-clause-forest : goal.enter_names-requires-clause-forest
-enter_names-requires-clause-forest c = let (told, entered) = c.requires.entered in (c.tell_places.ensures _ told entered.places).0.exact.rows
+enter_names-requires-clause-forest c = let (told, ready, entered) = c.requires.entered in (c.tell_places.ensures _ told entered.places).0.exact.rows
 
-pub enter_names-requires-clause-exact : goal.enter_names-requires-clause-exact
-enter_names-requires-clause-exact c = let (told, entered) = c.requires.entered in some_exact _ c.args.names told entered.names
+pub enter_names-requires-clause-behind : goal.enter_names-requires-clause-behind
+enter_names-requires-clause-behind c =
+    let (told, ready, entered) = c.requires.entered in
+    (told, (c.tell_places.ensures _ told entered.places).1, entered.names)
 
 pub find_misnamed-requires-clause-forest : goal.find_misnamed-requires-clause-forest
-find_misnamed-requires-clause-forest c = let (told, entered) = c.requires.entered in (c.tell_places.ensures _ told entered.places).0.exact.rows
+find_misnamed-requires-clause-forest c = let (told, ready, entered) = c.requires.entered in (c.tell_places.ensures _ told entered.places).0.exact.rows
 
 pub find_misnamed-requires-clause-names_forest : goal.find_misnamed-requires-clause-names_forest
 find_misnamed-requires-clause-names_forest c =
-    let (told, entered) = c.requires.entered in
+    let (told, ready, entered) = c.requires.entered in
     let (places, roots) = c.tell_places.ensures _ told entered.places in
     (c.enter_names.ensures told roots entered.names).exact.rows
+
+pub find_misnamed-requires-clause-roots : goal.find_misnamed-requires-clause-roots
+find_misnamed-requires-clause-roots c =
+    let (told, ready, entered) = c.requires.entered in
+    let (places, roots) = c.tell_places.ensures _ told entered.places in
+    let joined = roots_join _ c.args.names (told ++ ((c.args.p, c.args.q) ∷ [])) ready c.enter_names.new.names_rows (c.enter_names.ensures told roots entered.names) in
+    (told ++ ((c.args.p, c.args.q) ∷ []), ready, roots, joined)
 
 pub returns-in-Some-clause-decided : goal.returns-in-Some-clause-decided
 returns-in-Some-clause-decided c told ready entered =

@@ -1,11 +1,16 @@
 use Rattle.std.proofs.Common.{◌∙◌, arith, refl}
-use Rattle.sheet.proofs.Solving.{decided_whole, cut_of, slices_solved, past_again, records_again, solved_again}
+use Rattle.sheet.proofs.Solving.{decided_whole, cut_of, slices_ready, slices_solved, past_again, records_again, solved_again}
 use Rattle.sheet.proofs.telling.decide_pair.Goals as goal
 
 pub decide_slices-requires-clause-hold : goal.decide_slices-requires-clause-hold
 decide_slices-requires-clause-hold c =
     let (told, is, solved) = c.requires.solved in
-    (told, is, slices_solved (cut_of c.split_at_mut-front.ensures.value c.split_at_mut-first.ensures.value c.split_at_mut-second.ensures.value (c.split_at_mut-front.ensures.front_len ∙ c.forests_start.ensures) (c.split_at_mut-first.ensures.front_len ∙ c.forests_length.ensures) (c.split_at_mut-second.ensures.front_len ∙ c.forests_length-2.ensures)) (omega (arith, c.requires.places.0)) solved)
+    let parts = cut_of c.split_at_mut-front.ensures.value c.split_at_mut-first.ensures.value c.split_at_mut-second.ensures.value (c.split_at_mut-front.ensures.front_len ∙ c.forests_start.ensures) (c.split_at_mut-first.ensures.front_len ∙ c.forests_length.ensures) (c.split_at_mut-second.ensures.front_len ∙ c.forests_length-2.ensures) in (
+      told,
+      is,
+      slices_ready parts c.args.p c.args.q c.requires.places.0 c.requires.places.1 c.requires.depths solved,
+      slices_solved parts (omega (arith, c.requires.places.0)) solved,
+    )
 
 pub returns-clause-decided : goal.returns-clause-decided
 returns-clause-decided c told is solved =
