@@ -26,6 +26,10 @@ pub record PlacesJoined {L : Type 0} (T : Table L) (told : List Pair) (rows : Li
 abbrev pub SomePlacesJoined : {L : Type 0} → Table L → List ℕ → Type 0
 SomePlacesJoined T rows = (told : List Pair) × PlacesJoined T told rows
 
+-- and for some table
+abbrev pub SomeJoined : List ℕ → Type 0
+SomeJoined rows = (T : Table ℕ) × (told : List Pair) × PlacesJoined T told rows
+
 -- so two places have one root exactly if they are linked
 abbrev pub RootsLink : {L : Type 0} → Table L → List Pair → List ℕ → Type 0
 RootsLink T told rows =

@@ -5,7 +5,7 @@ ghost use Rattle.forest.specs.Rows.{IsNode, Rows, node_or_none};
 ghost use Rattle.recipe.specs.Common.{Least};
 ghost use Rattle.recipe.specs.Tables.{Form};
 ghost use Rattle.recipe.specs.Validity.{Ordered};
-ghost use Rattle.nodes.specs.PlaceClasses.{PlacesJoined, RootsLink, TellsMore, place_parts};
+ghost use Rattle.nodes.specs.PlaceClasses.{PlacesJoined, RootsLink, SomeJoined, TellsMore, place_parts};
 ghost use Rattle.nodes.specs.Records.{HasRows, written, written_form};
 ghost use Rattle.nodes.specs.Starting.{FewParts, OwnRow, SameBelow, written_part};
 
@@ -112,6 +112,7 @@ pub fn tell_places(rows: &mut [u32], p: usize, q: usize)
     requires rows { Rows rows.old }
     requires first { IsNode rows.old p }
     requires second { IsNode rows.old q }
+    requires joined { SomeJoined rows.old }
     ensures { TellsMore p q rows.old rows.new }
 {
     join(rows, p, q);

@@ -3,6 +3,9 @@ use Rattle.nodes.proofs.CausesDecide.{names_decide, none_decides}
 use Rattle.nodes.proofs.NamesClassed.{roots_join}
 use Rattle.nodes.proofs.telling.tell_pair.Goals as goal
 
+pub tell_places-requires-clause-joined : goal.tell_places-requires-clause-joined
+tell_places-requires-clause-joined c = let (told, ready, entered) = c.requires.entered in (_, told, entered.places)
+
 pub decide_places-requires-clause-forest : goal.decide_places-requires-clause-forest
 decide_places-requires-clause-forest c = let (told, ready, entered) = c.requires.entered in (c.tell_places.ensures _ told entered.places).0.exact.rows
 
