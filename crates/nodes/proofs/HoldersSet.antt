@@ -11,25 +11,22 @@ use Rattle.recipe.specs.Tables.{Form, Holder, Table, form_by, holder, holder_bel
 use Rattle.recipe.specs.Validity.{Ordered}
 use Rattle.recipe.proofs.Firsts.{first_more, first_none, none_first}
 use Rattle.recipe.proofs.Holders.{held_part, holder_tells, part_held, part_holder}
-use Rattle.nodes.specs.HoldersWritten.{HolderSet, HoldersWritten, PartsHeld, PartsInside, SameForms, written_holder}
+use Rattle.nodes.specs.HoldersWritten.{HolderSet, HolderWord, HoldersWritten, PartsHeld, PartsInside, SameForms, written_holder}
 use Rattle.nodes.specs.Opposed.{HasRow}
-use Rattle.nodes.specs.Records.{HasRows, written, written_form}
+use Rattle.nodes.specs.Records.{ChangesOnly, HasRows, written, written_form}
 use Rattle.nodes.proofs.FirstRows.{form_written}
 
 module _ (ws : List ℕ) (place v : ℕ) where
-  -- the words with another holder of the place
-  abbrev after : List ℕ
-  after = set ws (8 * place + 3) v
-
-  kept : (i : ℕ) → i ≢ 8 * place + 3 → slice_index after i ≡ slice_index ws i
-  kept i other = get_or-set_other ws (8 * place + 3) i v 0 other
+  -- the words with another holder of the place: every other word is as before
+  word_kept : ChangesOnly (λ i. i ≡ 8 * place + 3) ws (set ws (8 * place + 3) v)
+  word_kept i other = get_or-set_other ws (8 * place + 3) i v 0 other
 
   -- all forms are as before, and the other holders
   pub forms_kept : SameForms ws (set ws (8 * place + 3) v)
-  forms_kept p = rw (kept (8 * p) (omega arith), kept (8 * p + 1) (omega arith), kept (8 * p + 2) (omega arith))
+  forms_kept p = rw (word_kept (8 * p) (omega arith), word_kept (8 * p + 1) (omega arith), word_kept (8 * p + 2) (omega arith))
 
   pub holder_kept : (c : ℕ) → c ≢ place → written_holder (set ws (8 * place + 3) v) c ≡ written_holder ws c
-  holder_kept c other = ap node_or_none (kept (8 * c + 3) (omega arith))
+  holder_kept c other = ap node_or_none (word_kept (8 * c + 3) (omega arith))
 
   pub holder_new : HasRow ws place → written_holder (set ws (8 * place + 3) v) place ≡ node_or_none v
   holder_new row = ap node_or_none (get_or-set_same ws (8 * place + 3) v 0 (omega arith))
@@ -39,6 +36,7 @@ holder_set ws place p row = record {
   here = holder_new ws place (p + 1) row ∙ ap node_or_none (let e : p + 1 ≡ suc p = omega arith in e);
   others = holder_kept ws place (p + 1);
   forms = forms_kept ws place (p + 1);
+  only = word_kept ws place (p + 1);
 }
 
 -- a form of the kind of binders or of calls has these parts
@@ -91,6 +89,7 @@ module _ (ws : List ℕ) (p : ℕ) where
         held = λ x i. elim i [ inl is ↦ ap (λ y. written_holder new y.at) is ∙ done.here | inr off ↦ absurd off ];
         others = λ c other. done.others c (λ is. other (inside first second) (inl refl) (sym is));
         forms = done.forms;
+        only = λ i other. done.only i (λ e. other (inside first second, inl refl, e));
       })
 
   -- the part of a call that is held first is held still
@@ -112,20 +111,22 @@ module _ (ws : List ℕ) (p : ℕ) where
         ];
         others = λ c other. two.others c (λ is. other (right second) (inr (inl refl)) (sym is)) ∙ one.others c (λ is. other (left first) (inl refl) (sym is));
         forms = λ k. two.forms k ∙ one.forms k;
+        only = λ i other. two.only i (λ e. other (right second, inr (inl refl), e)) ∙ one.only i (λ e. other (left first, inl refl, e));
       })
 
--- the words have the holder of each place among the places below p, and the forms of the words `ws`
+-- the words have the holder of each place among the places below p, and differ from the words `ws` in holders alone
 pub record HoldersBelow (n : ℕ) (ws : List ℕ) (p : ℕ) (now : List ℕ) : Type 0 where
   pub held : (c : ℕ) → c < n → written_holder now c ≡ option_map (λ h. h.place) (holder_below (written n ws) p c)
   pub forms : SameForms ws now
+  pub only : ChangesOnly (HolderWord n) ws now
 
 module _ (n : ℕ) (ws : List ℕ) where
   abbrev T : Table ℕ
   T = written n ws
 
-  pub holders_none : (now : List ℕ) → ((c : ℕ) → c < n → written_holder now c ≡ None) → SameForms ws now → HoldersBelow n ws 0 now
+  pub holders_none : (now : List ℕ) → ((c : ℕ) → c < n → written_holder now c ≡ None) → SameForms ws now → ChangesOnly (HolderWord n) ws now → HoldersBelow n ws 0 now
   unfolding first_below
-  holders_none now none forms = record { held = none; forms = forms }
+  holders_none now none forms only = record { held = none; forms = forms; only = only }
 
   -- the table of words with the same forms
   pub same_table : (now : List ℕ) → SameForms ws now → written n now ≡ written n ws
@@ -165,6 +166,7 @@ module _ (n : ℕ) (ws : List ℕ) where
               held_more p c old new parts_done (holder_below T p c) refl (below.held c less)
               ∙ ap (option_map (λ h. h.place)) (sym (ap (λ k. holder_below T k c) next ∙ first_more (λ q. holds_by q (parts (T.form q)) c) p));
           forms = λ k. done.forms k ∙ below.forms k;
+          only = λ i other. parts_done.only i (λ (x, j, e). let less = ordered.rising p x j in other (x.at, omega arith, e)) ∙ below.only i other;
         }
 
     -- the holder among all places is that among the lower ones

@@ -3,7 +3,7 @@ use Rattle.std.proofs.Common.{◌≡◌, ◌≢◌, ℕ, ◌+◌, ◌*◌, ◌<�
 use Rattle.std.proofs.lemmas.Option.{slice_get-get_or}
 use Rattle.recipe.specs.Tables.{form_at, form_by, form_of, table_of}
 use Rattle.recipe.specs.declared.places.Place.{Place}
-use Rattle.nodes.specs.Records.{HasRows, with_numbers, written_form}
+use Rattle.nodes.specs.Records.{ChangesOnly, FormWord, HasRows, with_numbers, written_form}
 
 -- the words of the place p set
 abbrev pub with_row : List ℕ → ℕ → ℕ → ℕ → ℕ → List ℕ
@@ -37,6 +37,15 @@ module _ (ws : List ℕ) (p kind a b : ℕ) where
       get_or-set_other two (8 * p + 2) (8 * p + 1) b 0 (omega arith) ∙ get_or-set_same one (8 * p + 1) a 0 (omega (arith, length-set {A = ℕ})) in
       let third : slice_index (with_row ws p kind a b) (8 * p + 2) ≡ b = get_or-set_same two (8 * p + 2) b 0 (omega (arith, length-set {A = ℕ})) in
       rw (first, second, third)
+
+-- one word more that may change
+pub only_set : {At : ℕ → Type 0} (old ws : List ℕ) (j v : ℕ) → At j → ChangesOnly At old ws → ChangesOnly At old (set ws j v)
+only_set {At = At} old ws j v at only i other =
+    get_or-set_other ws j i v 0 (λ e. other (rw e at)) ∙ only i other
+
+-- the words of one place more may change
+pub only_more : (p : ℕ) (old ws : List ℕ) → ChangesOnly (FormWord p) old ws → ChangesOnly (FormWord (p + 1)) old ws
+only_more p old ws only i other = only i (λ (k, low, from, to). other (k, omega arith, from, to))
 
 -- the words write the places below n
 abbrev pub WritesBelow : {L : Type 0} → (L → Option ℕ) → List Place → List L → ℕ → List ℕ → Type 0

@@ -6,11 +6,15 @@ use Rattle.recipe.specs.Common.{In}
 use Rattle.recipe.specs.Recipes.{Part}
 use Rattle.recipe.specs.Tables.{holder, parts}
 use Rattle.nodes.specs.Opposed.{HasRow}
-use Rattle.nodes.specs.Records.{written, written_form}
+use Rattle.nodes.specs.Records.{ChangesOnly, written, written_form}
 
 -- the place that the words have as the holder of p, or none: the word is one more than the place, or 0
 abbrev pub written_holder : List ℕ → ℕ → Option ℕ
 written_holder ws p = node_or_none (slice_index ws (8 * p + 3))
+
+-- the index of the word for the holder of one of n places
+abbrev pub HolderWord : ℕ → ℕ → Type 0
+HolderWord n i = (p : ℕ) × (p < n) × (i ≡ 8 * p + 3)
 
 -- the words have the holder of each of n places
 abbrev pub HoldersWritten : ℕ → List ℕ → Type 0
@@ -29,9 +33,11 @@ pub record HolderSet (p place : ℕ) (old new : List ℕ) : Type 0 where
   pub here : written_holder new place ≡ Some p
   pub others : (c : ℕ) → c ≢ place → written_holder new c ≡ written_holder old c
   pub forms : SameForms old new
+  pub only : ChangesOnly (λ i. i ≡ 8 * place + 3) old new
 
 -- the words have p as the holder of these parts too
 pub record PartsHeld (p : ℕ) (xs : List (Part ℕ)) (old new : List ℕ) : Type 0 where
   pub held : (x : Part ℕ) → In x xs → written_holder new x.at ≡ Some p
   pub others : (c : ℕ) → ((x : Part ℕ) → In x xs → x.at ≢ c) → written_holder new c ≡ written_holder old c
   pub forms : SameForms old new
+  pub only : ChangesOnly (λ i. (x : Part ℕ) × In x xs × (i ≡ 8 * x.at + 3)) old new

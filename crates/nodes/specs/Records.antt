@@ -24,6 +24,14 @@ written n ws = record { size = n; form = λ p. cond (nat_lt p n) (written_form w
 abbrev pub HasRows : ℕ → List ℕ → Type 0
 HasRows n ws = 8 * n ≤ length ws
 
+-- each word is as before, but for those at some indices
+abbrev pub ChangesOnly : (ℕ → Type 0) → List ℕ → List ℕ → Type 0
+ChangesOnly At old new = (i : ℕ) → (At i → ⊥) → slice_index new i ≡ slice_index old i
+
+-- the index of one of the three words that write the form of one of n places
+abbrev pub FormWord : ℕ → ℕ → Type 0
+FormWord n i = (p : ℕ) × (p < n) × (8 * p ≤ i) × (i < 8 * p + 3)
+
 -- the words write the table, with a number for each leaf
 pub record Writes {L : Type 0} (number : L → Option ℕ) (T : Table L) (ws : List ℕ) : Type 0 where
   pub rows : HasRows T.size ws

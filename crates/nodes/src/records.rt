@@ -5,7 +5,7 @@ ghost use Rattle.recipe.specs.Numbering.{number_of};
 ghost use Rattle.recipe.specs.Tables.{form_by, form_of, table_of};
 ghost use Rattle.recipe.specs.Validity.{Fits, Ordered, Valid};
 ghost use Rattle.closure.specs.OtherLeaves.{SameTables};
-ghost use Rattle.nodes.specs.Records.{HasRows, Writes, with_numbers, written};
+ghost use Rattle.nodes.specs.Records.{ChangesOnly, FormWord, HasRows, Writes, with_numbers, written};
 
 use recipe::{Kind, Leaf, Place, leaf_number};
 
@@ -23,11 +23,13 @@ fn number_or_a<L: Leaf>(place: &Place, leaves: &[L]) -> u32
 }
 
 // Writes the record of each place, a leaf by the number of the first leaf of the list that is the same. What is written is a
-// table in order too, whose leaves are the numbers, and are equal where the leaves are the same.
+// table in order too, whose leaves are the numbers, and are equal where the leaves are the same. The other words of a record
+// are left as they are, and so are those past the records.
 pub fn write_records<L: Leaf>(words: &mut [u32], places: &[Place], leaves: &[L])
     requires rows { HasRows (length places.now) words.old }
     requires valid { Valid places.now leaves.now }
     ensures writes { Writes (number_of L.equates leaves.now) (table_of places.now leaves.now) words.new }
+    ensures only { ChangesOnly (FormWord (length places.now)) words.old words.new }
     ensures long { length words.new ≡ length words.old }
     ensures ordered { Ordered (written (length places.now) words.new) }
     ensures same { SameTables L.equates nat_eq (table_of places.now leaves.now) (written (length places.now) words.new) leaves.now (range_with_len 0 (length leaves.now)) }

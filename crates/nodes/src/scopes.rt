@@ -4,9 +4,9 @@ ghost use Rattle.std.specs.List.{slice_get};
 ghost use Rattle.recipe.specs.Scopes.{NameEqual, inner};
 ghost use Rattle.recipe.specs.Tables.{depth, parts, scope};
 ghost use Rattle.recipe.specs.Validity.{Ordered};
-ghost use Rattle.nodes.specs.HoldersWritten.{HolderSet, HoldersWritten, PartsHeld, PartsInside, SameForms, written_holder};
+ghost use Rattle.nodes.specs.HoldersWritten.{HolderSet, HolderWord, HoldersWritten, PartsHeld, PartsInside, SameForms, written_holder};
 ghost use Rattle.nodes.specs.Opposed.{HasRow};
-ghost use Rattle.nodes.specs.Records.{HasRows, written, written_form};
+ghost use Rattle.nodes.specs.Records.{ChangesOnly, HasRows, written, written_form};
 
 use crate::clash::kind_at;
 use crate::names::binder_of;
@@ -25,6 +25,7 @@ fn clear_holders(words: &mut [u32], size: usize)
     requires { HasRows size words.old }
     ensures none { (p : ℕ) → p < size → written_holder words.new p ≡ None }
     ensures forms { SameForms words.old words.new }
+    ensures only { ChangesOnly (HolderWord size) words.old words.new }
 {
     for p in 0..size {
         words[8 * p + 3] = 0;
@@ -59,7 +60,7 @@ fn hold_parts(words: &mut [u32], p: usize)
     }
 }
 
-// Writes for each place which place holds it. The table that the words write is as before.
+// Writes for each place which place holds it, and no other word. The table that the words write is as before.
 pub fn write_holders(words: &mut [u32], size: usize)
     requires few { size ≤ 512 }
     requires rows { HasRows size words.old }
@@ -67,6 +68,7 @@ pub fn write_holders(words: &mut [u32], size: usize)
     ensures holders { HoldersWritten size words.new }
     ensures forms { SameForms words.old words.new }
     ensures same { written size words.new ≡ written size words.old }
+    ensures only { ChangesOnly (HolderWord size) words.old words.new }
     ensures long { length words.new ≡ length words.old }
 {
     clear_holders(words, size);

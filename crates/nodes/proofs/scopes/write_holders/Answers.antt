@@ -3,7 +3,7 @@ use Rattle.nodes.proofs.HoldersSet.{holders_all, holders_more, holders_none, par
 use Rattle.nodes.proofs.scopes.write_holders.Goals as goal
 
 pub loop-p-init : goal.loop-p-init
-loop-p-init c = holders_none c.args.size c.args.words.now c.clear_holders.new.words c.clear_holders.ensures.none c.clear_holders.ensures.forms
+loop-p-init c = holders_none c.args.size c.args.words.now c.clear_holders.new.words c.clear_holders.ensures.none c.clear_holders.ensures.forms c.clear_holders.ensures.only
 
 pub hold_parts-requires-clause-inside : goal.hold_parts-requires-clause-inside
 hold_parts-requires-clause-inside c =
