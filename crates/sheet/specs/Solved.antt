@@ -1,5 +1,5 @@
 -- What a memory holds of a table and its told pairs. Assumes nothing. (docs/RULES.md, "The memory")
-use Rattle.std.specs.Prelude.{◌≡◌, ℕ, ◌*◌, ◌<◌, ◌≤◌, Bool, List, [], length, nat_eq, take}
+use Rattle.std.specs.Prelude.{◌≡◌, ℕ, ◌*◌, ◌<◌, ◌≤◌, Bool, List, [], ◌∷◌, ◌++◌, length, nat_eq, take}
 use Rattle.std.specs.List.{range_with_len}
 use Rattle.recipe.specs.Checking.{name_count}
 use Rattle.recipe.specs.Fillings.{Pair, Satisfiable}
@@ -19,6 +19,11 @@ written_table size ws = written size (records size ws)
 -- the two forests have all that the told pairs say
 abbrev pub EnteredIn : {L : Type 0} → Table L → ℕ → List Pair → List ℕ → Type 0
 EnteredIn T m told forests = Entered T m told (places_rows T.size forests) (names_rows T.size forests)
+
+-- they have so for some told pairs that are well formed with the pair p, q after them (only private functions cite it)
+abbrev pub EnteredInBefore : {L : Type 0} → Table L → ℕ → ℕ → ℕ → List ℕ → Type 0
+EnteredInBefore T m p q forests =
+    (told : List Pair) × WellFormed T m (told ++ ((p, q) ∷ [])) × EnteredIn T m told forests
 
 -- the words before the forests write a well formed table, with holes below 512, and the holder of each place
 pub record HasTable (size m : ℕ) (ws : List ℕ) : Type 0 where
@@ -60,3 +65,8 @@ pub record SlicesHold (size m : ℕ) (told : List Pair) (before forests again : 
   pub pairs : take (2 * length told) before ≡ pair_words told
   pub first : EnteredIn (written_table size before) m told forests
   pub second : EnteredIn (written_table size before) m told again
+
+-- they do so for so many told pairs, which are well formed with the pair p, q after them
+abbrev pub SlicesHoldBefore : ℕ → ℕ → ℕ → ℕ → ℕ → List ℕ → List ℕ → List ℕ → Type 0
+SlicesHoldBefore size m standing p q before forests again =
+    (told : List Pair) × (length told ≡ standing) × WellFormed (written_table size before) m (told ++ ((p, q) ∷ [])) × SlicesHold size m told before forests again

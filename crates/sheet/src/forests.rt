@@ -4,7 +4,7 @@ ghost use Rattle.recipe.specs.Fillings.{Pair};
 ghost use Rattle.recipe.specs.Tells.{Decided};
 ghost use Rattle.closure.specs.Decision.{WellFormed};
 ghost use Rattle.sheet.specs.Layout.{forests_length, forests_start, marks_start};
-ghost use Rattle.sheet.specs.Solved.{EnteredIn, HasTable, written_table};
+ghost use Rattle.sheet.specs.Solved.{EnteredIn, EnteredInBefore, HasTable, written_table};
 
 use crate::layout::{marks_start, records_of};
 use nodes::{enter_pair, open_forests, tell_pair};
@@ -57,7 +57,7 @@ pub(crate) fn tell_copy(
 ) -> Result<(), Refusal>
     requires table { HasTable size names front.old }
     requires long { length forests.old ≡ forests_length size names }
-    requires entered { (told : List Pair) × WellFormed (written_table size front.old) names (told ++ ((p, q) ∷ [])) × EnteredIn (written_table size front.old) names told forests.old }
+    requires entered { EnteredInBefore (written_table size front.old) names p q forests.old }
     requires first { p < size }
     requires second { q < size }
     ensures decided { (told : List Pair) → WellFormed (written_table size front.old) names (told ++ ((p, q) ∷ [])) → EnteredIn (written_table size front.old) names told forests.old → Decided nat_eq (written_table size front.old) (told ++ ((p, q) ∷ [])) result }

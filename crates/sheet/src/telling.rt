@@ -7,7 +7,7 @@ ghost use Rattle.recipe.specs.Marks.{refused_by};
 ghost use Rattle.recipe.specs.Tells.{Decided, Tells, tell_fault};
 ghost use Rattle.closure.specs.Decision.{WellFormed};
 ghost use Rattle.sheet.specs.Layout.{KeepsPast, forests_length as forests_size, records, records_start, used};
-ghost use Rattle.sheet.specs.Solved.{SlicesHold, Solved, written_table};
+ghost use Rattle.sheet.specs.Solved.{SlicesHold, SlicesHoldBefore, Solved, written_table};
 
 use crate::forests::{enter_copy, tell_copy};
 use crate::layout::{forests_length, forests_start, records_of};
@@ -40,7 +40,7 @@ fn decide_slices(
 ) -> Result<(), Refusal>
     requires long { length first.old ≡ forests_size size names }
     requires second_long { length second.old ≡ forests_size size names }
-    requires hold { (told : List Pair) × (length told ≡ standing) × WellFormed (written_table size front.old) names (told ++ ((p, q) ∷ [])) × SlicesHold size names told front.old first.old second.old }
+    requires hold { SlicesHoldBefore size names standing p q front.old first.old second.old }
     requires few { standing < 512 }
     requires places { (p < size) × (q < size) }
     ensures decided { (told : List Pair) → SlicesHold size names told front.old first.old second.old → WellFormed (written_table size front.old) names (told ++ ((p, q) ∷ [])) → Decided nat_eq (written_table size front.old) (told ++ ((p, q) ∷ [])) result }
