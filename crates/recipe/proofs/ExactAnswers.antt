@@ -12,7 +12,7 @@ use Rattle.recipe.specs.Tells.{Decided, Tells}
 use Rattle.recipe.proofs.OneAnswer.{looks_once}
 
 -- neither side holds
-neither : {A B : Type 0} → (A → ⊥) → (B → ⊥) → A ↔ B
+pub neither : {A B : Type 0} → (A → ⊥) → (B → ⊥) → A ↔ B
 neither f g = (λ a. absurd (f a), λ b. absurd (g b))
 
 module _ {L : Type 0} (same : L → L → Bool) where

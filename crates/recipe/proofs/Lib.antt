@@ -1,4 +1,5 @@
 pub mod AcceptedTells
+pub mod AlikeExact
 pub mod ByParts
 pub mod EqualRecipes
 pub mod EqualScopes

@@ -1,3 +1,5 @@
+pub mod Alike
+pub mod AlikeLaws
 pub mod AnswerLaws
 pub mod Checking
 pub mod Common

@@ -1,6 +1,7 @@
 // Grade recipes: the rules of matching them, tables of recipes and their check, kinds of leaves and how leaves are numbered, short spellings.
 #![tactic(auto)]
 
+mod alike;
 mod answers;
 mod checker;
 mod checking;
@@ -13,6 +14,7 @@ mod places;
 mod refusals;
 mod table_laws;
 
+pub use alike::alike_is_exact;
 pub use answers::{accepted_tells_have_a_filling, answers_are_exact, answers_are_unique};
 pub use checking::{check, name_count};
 pub use equality::{
