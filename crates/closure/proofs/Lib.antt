@@ -17,6 +17,7 @@ pub mod ClosureDecided
 pub mod ClosureGrown
 -- two tables beside each other
 pub mod SameParts
+pub mod AlikeLeaves
 pub mod NamesAsHoles
 -- recipes and forms
 pub mod Relations

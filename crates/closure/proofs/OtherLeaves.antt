@@ -15,6 +15,7 @@ use Rattle.recipe.specs.declared.refusals.Refusal.{Refusal}
 use Rattle.closure.specs.Decision.{WellFormed}
 use Rattle.closure.specs.OtherLeaves.{SameForm, LeavesDoNotMatter, SameTables}
 use Rattle.closure.specs.Walks.{SeenAt, Walks, form_label}
+use Rattle.closure.proofs.AlikeLeaves.{alikes_over}
 use Rattle.closure.proofs.Forms.{only}
 use Rattle.closure.proofs.Known.{least_over}
 use Rattle.closure.proofs.FillingExists.{decision_exact}
@@ -223,5 +224,6 @@ leaves_do_not_matter_lem same other laws others T U ls ks m pairs ready alike =
     record {
       filled = (filled, filled_over other_way others laws ready_back);
       tells = λ p q r. (tells_over laws others alike ready, tells_over others laws other_way ready_back);
+      alikes = λ p q r. (alikes_over alike other_way (there alike) (back alike) p q r, alikes_over other_way alike (back alike) (there alike) p q r);
       looks = λ filling p path r. (looks_over alike laws others ready filling p path r, looks_over other_way others laws ready_back (filled filling) p path r);
     }

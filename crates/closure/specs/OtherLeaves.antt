@@ -1,5 +1,6 @@
 -- Two tables that have the same forms, with leaves that are the same in one exactly where they are in the other. Assumes nothing. (docs/RULES.md, "Other leaves")
 use Rattle.std.specs.Prelude.{◌≡◌, ℕ, Bool, ◌↔◌, List, Result}
+use Rattle.recipe.specs.Alike.{Alikes}
 use Rattle.recipe.specs.Fillings.{Pair, Satisfiable}
 use Rattle.recipe.specs.Looks.{Looks}
 use Rattle.recipe.specs.Numbering.{number_of}
@@ -25,11 +26,12 @@ pub record SameTables {L M : Type 0} (same : L → L → Bool) (other : M → M 
   pub leaves : (p q : ℕ) (l n : L) (k o : M) → T.form p ≡ Form.leaf l → T.form q ≡ Form.leaf n → U.form p ≡ Form.leaf k → U.form q ≡ Form.leaf o → same l n ≡ other k o
   pub numbers : (p : ℕ) (l : L) (k : M) → T.form p ≡ Form.leaf l → U.form p ≡ Form.leaf k → number_of same ls l ≡ number_of other ks k
 
--- the same tells are right on both tables, and the same looks after pairs that have a filling
+-- the same tells are right on both tables, the same looks after pairs that have a filling, and the same answers to whether two places are alike
 pub record SameAnswers {L M : Type 0} (same : L → L → Bool) (other : M → M → Bool) (T : Table L) (U : Table M) (ls : List L) (ks : List M) (pairs : List Pair) : Type 0 where
   pub filled : Satisfiable same T pairs ↔ Satisfiable other U pairs
   pub tells : (p q : ℕ) (r : Result (Unit {0}) Refusal) → Tells same T pairs p q r ↔ Tells other U pairs p q r
   pub looks : Satisfiable same T pairs → (p : ℕ) (path : List ℕ) (r : Result Finding Refusal) → Looks same T ls pairs p path r ↔ Looks other U ks pairs p path r
+  pub alikes : (p q : ℕ) (r : Result Bool Refusal) → Alikes same T p q r ↔ Alikes other U p q r
 
 -- this holds of every table with pairs that is well formed
 abbrev pub LeavesDoNotMatter : {L M : Type 0} → (L → L → Bool) → (M → M → Bool) → Type 0
