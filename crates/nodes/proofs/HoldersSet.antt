@@ -65,10 +65,10 @@ module _ (ws : List ℕ) (p : ℕ) where
   abbrev second : ℕ
   second = slice_index ws (8 * p + 2)
 
-  bind_form : kind_of (written_form ws p) ≡ 4 → written_form ws p ≡ Form.bind first second
+  pub bind_form : kind_of (written_form ws p) ≡ 4 → written_form ws p ≡ Form.bind first second
   bind_form e = bind_by first second (slice_index ws (8 * p)) e
 
-  call_form : kind_of (written_form ws p) ≡ 5 → written_form ws p ≡ Form.call first second
+  pub call_form : kind_of (written_form ws p) ≡ 5 → written_form ws p ≡ Form.call first second
   call_form e = call_by first second (slice_index ws (8 * p)) e
 
   -- the parts of a place have rows

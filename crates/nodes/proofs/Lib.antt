@@ -1,11 +1,14 @@
+pub mod AlikeAnswers
 pub mod BindersHidden
 pub mod BindersTied
 pub mod CausesDecide
 pub mod ClashesFound
 pub mod CyclesFound
 pub mod EqualNamesFound
+pub mod EqualPlaces
 pub mod FirstNames
 pub mod FirstRows
+pub mod FormsWritten
 pub mod HoldersSet
 pub mod HoleNames
 pub mod HolesJoined
@@ -27,6 +30,10 @@ pub mod OwnParts
 pub mod PlaceParts
 pub mod PlacesInside
 pub mod PlacesLinked
+pub mod LevelsClimbed
+pub mod LikePlaces
+pub mod LowestHolesFound
+pub mod ScopeLevels
 pub mod ScopesClimbed
 pub mod Written
 pub mod WrittenTables

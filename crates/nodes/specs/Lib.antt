@@ -5,6 +5,8 @@ pub mod Cycles
 pub mod Entering
 pub mod HoldersWritten
 pub mod JoinedNames
+pub mod Levels
+pub mod LowestHoles
 pub mod MisnamedRoots
 pub mod Misnaming
 pub mod NameClasses

@@ -13,7 +13,7 @@ use crate::names::binder_of;
 use recipe::Kind;
 
 // The place that holds `p`, or none.
-fn holder_of(words: &[u32], p: usize) -> Option<usize>
+pub(crate) fn holder_of(words: &[u32], p: usize) -> Option<usize>
     requires { HasRow words.now p }
     ensures { result ≡ written_holder words.now p }
 {

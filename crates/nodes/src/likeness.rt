@@ -1,0 +1,92 @@
+// Whether the recipes at two places are equal in their scopes, whatever was told.
+ghost use Rattle.std.specs.Prelude.{◌≡◌, ℕ, ◌<◌, ◌↔◌, nat_eq, true};
+ghost use Rattle.recipe.specs.Alike.{Alikes, Finished};
+ghost use Rattle.recipe.specs.Fillings.{Filling, Satisfies};
+ghost use Rattle.recipe.specs.Tables.{depth, scope};
+ghost use Rattle.recipe.specs.Validity.{Ordered};
+ghost use Rattle.nodes.specs.HoldersWritten.{HoldersWritten};
+ghost use Rattle.nodes.specs.Levels.{FewNames, HasLevels};
+ghost use Rattle.nodes.specs.Records.{HasRows, written};
+
+use crate::clash::kind_at;
+use crate::levels::{Levels, levels_at};
+use crate::lowest_hole::{lower, lowest_hole};
+use crate::scopes::depth_of;
+use recipe::{Kind, Refusal};
+
+// Whether two finished places are equal in their scopes, by their parts, side by side. The levels are those of the two places,
+// and are so again at the end.
+fn equal_places(
+    words: &[u32],
+    size: usize,
+    first: &mut Levels,
+    second: &mut Levels,
+    p: usize,
+    q: usize,
+) -> bool
+    requires rows { HasRows size words.now }
+    requires ordered { Ordered (written size words.now) }
+    requires names { FewNames (written size words.now) }
+    requires first_place { p < size }
+    requires second_place { q < size }
+    requires one_depth { depth (written size words.now) p ≡ depth (written size words.now) q }
+    requires finished { Finished (written size words.now) p q }
+    requires first_levels { HasLevels (scope (written size words.now) p) first.old }
+    requires second_levels { HasLevels (scope (written size words.now) q) second.old }
+    ensures equal { (θ : Filling ℕ) → (result ≡ true) ↔ Satisfies nat_eq (written size words.now) θ (p, q) }
+    ensures first_levels { HasLevels (scope (written size words.now) p) first.new }
+    ensures second_levels { HasLevels (scope (written size words.now) q) second.new }
+{
+    let kind = kind_at(words, p);
+    if kind_at(words, q) != kind {
+        return false;
+    }
+    let (a, c) = (words[8 * p + 1] as usize, words[8 * p + 2] as usize);
+    let (b, d) = (words[8 * q + 1] as usize, words[8 * q + 2] as usize);
+    match kind {
+        Kind::Nil | Kind::Hole => true,
+        Kind::Leaf => a == b,
+        Kind::Name => first.same_name(a, second, b),
+        Kind::Bind => {
+            let first_before = first.enter(a);
+            let second_before = second.enter(b);
+            let equal = equal_places(words, size, first, second, c, d);
+            first.leave(a, first_before);
+            second.leave(b, second_before);
+            equal
+        }
+        Kind::Call => {
+            equal_places(words, size, first, second, a, b)
+                && equal_places(words, size, first, second, c, d)
+        }
+    }
+}
+
+// Whether the recipes at two places of one depth are equal in their scopes, or why that is refused. It costs two climbs and
+// two passes over the places under the two.
+pub fn alike(words: &[u32], size: usize, p: usize, q: usize) -> Result<bool, Refusal>
+    requires rows { HasRows size words.now }
+    requires ordered { Ordered (written size words.now) }
+    requires holders { HoldersWritten size words.now }
+    requires names { FewNames (written size words.now) }
+    ensures { Alikes nat_eq (written size words.now) p q result }
+{
+    if p >= size {
+        return Err(Refusal::NoSuchPlace { place: p });
+    }
+    if q >= size {
+        return Err(Refusal::NoSuchPlace { place: q });
+    }
+    if depth_of(words, size, p) != depth_of(words, size, q) {
+        return Err(Refusal::UnequalDepths {
+            first: p,
+            second: q,
+        });
+    }
+    if let Some(place) = lower(lowest_hole(words, size, p), lowest_hole(words, size, q)) {
+        return Err(Refusal::HoleInside { place });
+    }
+    let mut first = levels_at(words, size, p);
+    let mut second = levels_at(words, size, q);
+    Ok(equal_places(words, size, &mut first, &mut second, p, q))
+}
