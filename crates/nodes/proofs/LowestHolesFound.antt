@@ -1,5 +1,5 @@
 -- The lowest hole at or under a place is the lowest of those under its parts, or the place itself. Assumes nothing.
-use Rattle.std.proofs.Common.{◌≡◌, ℕ, ◌<◌, ◌≤◌, ◌≢◌, ◌⊎◌, Bool, true, false, cond, nat_lt, Some, None, Option, refl, ap, inl, inr, arith, ltb-true, ltb-false}
+use Rattle.std.proofs.Common.{◌≡◌, ℕ, ◌≤◌, ◌≢◌, ◌⊎◌, Bool, true, false, cond, nat_lt, Some, None, Option, refl, ap, inl, inr, arith, ltb-true, ltb-false}
 use Rattle.recipe.specs.Alike.{HoleWithin, Within}
 use Rattle.recipe.specs.Common.{In, Least}
 use Rattle.recipe.specs.Links.{kind_of}
@@ -30,7 +30,7 @@ lower_least P Q None (Some b) none two = record { has = inr two.has; lowest = λ
 lower_least P Q (Some a) None one none = record { has = inl one.has; lowest = λ k h. elim h [ inl p ↦ one.lowest k p | inr q ↦ absurd (none k q) ] }
 lower_least P Q (Some a) (Some b) one two = lower_by (nat_lt b a) refl one two
 
--- a form of the kind of holes is one, and those of the first three kinds have no parts
+-- a form of the kind of holes is one
 pub hole_of_kind : {L : Type 0} (f : Form L) → kind_of f ≡ 3 → (k : ℕ) × (f ≡ Form.hole k)
 hole_of_kind Form.nil e = absurd (omega arith)
 hole_of_kind (Form.leaf l) e = absurd (omega arith)
@@ -38,14 +38,6 @@ hole_of_kind (Form.name x) e = absurd (omega arith)
 hole_of_kind (Form.hole h) e = (h, refl)
 hole_of_kind (Form.bind a c) e = absurd (omega arith)
 hole_of_kind (Form.call c d) e = absurd (omega arith)
-
-no_parts : {L : Type 0} (f : Form L) (x : Part ℕ) → kind_of f ≤ 3 → In x (parts f) → ⊥
-no_parts Form.nil x e i = i
-no_parts (Form.leaf l) x e i = i
-no_parts (Form.name n) x e i = i
-no_parts (Form.hole h) x e i = i
-no_parts (Form.bind a c) x e i = omega arith
-no_parts (Form.call c d) x e i = omega arith
 
 module _ {L : Type 0} (T : Table L) where
   -- a hole under a part is under the place
@@ -68,15 +60,12 @@ module _ {L : Type 0} (T : Table L) where
   within_above ordered Within.here = omega arith
   within_above ordered (Within.under {p = p} x i w) = let up = ordered.rising p x i in let above = within_above ordered w in omega arith
 
-  -- a hole, and a place without parts
+  -- a hole
   pub hole_here : Ordered T → (p : ℕ) → kind_of (T.form p) ≡ 3 → FindsHole T p (Some p)
   hole_here ordered p e = record {
     has = record { within = Within.here; hole = hole_of_kind (T.form p) e };
     lowest = λ h w. within_above ordered w.within;
   }
-
-  pub hole_nowhere : (p : ℕ) → kind_of (T.form p) < 3 → FindsHole T p None
-  hole_nowhere p e h w = let (x, i, rest) = hole_down (λ k. omega arith) w in no_parts (T.form p) x (omega arith) i
 
   -- a bind, and a call
   pub hole_inside : (p a c : ℕ) (r : Option ℕ) → T.form p ≡ Form.bind a c → FindsHole T c r → FindsHole T p r

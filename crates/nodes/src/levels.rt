@@ -29,6 +29,13 @@ impl Levels {
         }
     }
 
+    // The number of binders.
+    pub(crate) fn depth(&self) -> u8
+        ensures { result ≡ self.now.depth }
+    {
+        self.depth
+    }
+
     // Goes below a binder, and gives the level that its name had above it.
     pub(crate) fn enter(&mut self, name: usize) -> u8
         requires name { name < 64 }

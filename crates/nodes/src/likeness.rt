@@ -11,7 +11,6 @@ ghost use Rattle.nodes.specs.Records.{HasRows, written};
 use crate::clash::kind_at;
 use crate::levels::{Levels, levels_at};
 use crate::lowest_hole::{lower, lowest_hole};
-use crate::scopes::depth_of;
 use recipe::{Kind, Refusal};
 
 // Whether two finished places are equal in their scopes, by their parts, side by side. The levels are those of the two places,
@@ -77,7 +76,9 @@ pub fn alike(words: &[u32], size: usize, p: usize, q: usize) -> Result<bool, Ref
     if q >= size {
         return Err(Refusal::NoSuchPlace { place: q });
     }
-    if depth_of(words, size, p) != depth_of(words, size, q) {
+    let mut first = levels_at(words, size, p);
+    let mut second = levels_at(words, size, q);
+    if first.depth() != second.depth() {
         return Err(Refusal::UnequalDepths {
             first: p,
             second: q,
@@ -86,7 +87,5 @@ pub fn alike(words: &[u32], size: usize, p: usize, q: usize) -> Result<bool, Ref
     if let Some(place) = lower(lowest_hole(words, size, p), lowest_hole(words, size, q)) {
         return Err(Refusal::HoleInside { place });
     }
-    let mut first = levels_at(words, size, p);
-    let mut second = levels_at(words, size, q);
     Ok(equal_places(words, size, &mut first, &mut second, p, q))
 }
