@@ -129,10 +129,10 @@ module _ {L : Type 0} (number : L → Option ℕ) where
   nil_found (s ∷ path) = (Finding.Absent, unchanged (λ a. refl), λ e. cc, found_none number Recipe.nil s path (λ y i. absurd i))
 
 module _ {L : Type 0} {same : L → L → Bool} (laws : Sameness same) {T : Table L} {m : ℕ} {pairs : List Pair} (ready : WellFormed T m pairs) (ls : List L) where
-  abbrev number : L → Option ℕ
+  abbrev pub number : L → Option ℕ
   number = number_of same ls
 
-  abbrev Walk : ℕ → List ℕ → Finding → Type 0
+  abbrev pub Walk : ℕ → List ℕ → Finding → Type 0
   Walk = Walks T m pairs number
 
   -- the names that a walk finds are below m
@@ -141,7 +141,7 @@ module _ {L : Type 0} {same : L → L → Bool} (laws : Sameness same) {T : Tabl
       elim (joined_low ready (Closure.back j)) [ inl d ↦ low x (let one : z ≡ x = cc in cc) | inr h ↦ (let one : y ≡ x = cc in rw (← one) h) ]
   carried_low x (SeenAt.other n) e low = low x e
 
-  walk_low : {p : ℕ} {path : List ℕ} {f : Finding} → Walk p path f → (x : ℕ) → f ≡ named x → x < m
+  pub walk_low : {p : ℕ} {path : List ℕ} {f : Finding} → Walk p path f → (x : ℕ) → f ≡ named x → x < m
   walk_low (Walks.label {p = p} n) x e = ready.names p x (name_form number (T.form p) x n e)
   walk_low (Walks.absent n none) x e = absurd (cc)
   walk_low (Walks.down {f = f} y i w) x e = walk_low w x (above_named y.under x f e).0
@@ -193,7 +193,7 @@ module _ {L : Type 0} {same : L → L → Bool} (laws : Sameness same) {T : Tabl
       walk_shown (Walks.undecided all) o = absurd (o refl)
 
       -- what a walk finds at a place is something at each linked place
-      carry : {p r : ℕ} {path : List ℕ} {f : Finding} → Linked T pairs p r → Walk r path f → (g : Finding) × SeenAt T m pairs r p f g
+      pub carry : {p r : ℕ} {path : List ℕ} {f : Finding} → Linked T pairs p r → Walk r path f → (g : Finding) × SeenAt T m pairs r p f g
       carry {p = p} {r = r} {path = path} {f = f} l w = elim (named_or_not f) [ inl is ↦ by_name is.0 is.1 | inr n ↦ (f, SeenAt.other n) ]
         where
           by_name : (x : ℕ) → f ≡ named x → (g : Finding) × SeenAt T m pairs r p f g

@@ -17,7 +17,7 @@ accepted_append (Entry.seal ∷ h) k = accepted_append h k
 
 module _ {L : Type 0} (same : L → L → Bool) (T : Table L) (ls : List L) where
   -- one right entry more
-  satisfied_more : (pairs : List Pair) (e : Entry) → Satisfiable same T pairs → RightAfter same T ls pairs e → Satisfiable same T (pairs ++ accepted_pairs (e ∷ []))
+  pub satisfied_more : (pairs : List Pair) (e : Entry) → Satisfiable same T pairs → RightAfter same T ls pairs e → Satisfiable same T (pairs ++ accepted_pairs (e ∷ []))
   satisfied_more pairs (Entry.tell p q (Ok u)) f (Tells.decided d (Decided.accepted g n m)) = g
   satisfied_more pairs (Entry.tell p q (Err e)) f right = rw (append-nil pairs) f
   satisfied_more pairs (Entry.look p path r) f right = rw (append-nil pairs) f

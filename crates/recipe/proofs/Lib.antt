@@ -16,6 +16,8 @@ pub mod Numbers
 pub mod OneAnswer
 pub mod Opened
 pub mod PackedOnce
+pub mod PromiseKept
 pub mod Sameness
 pub mod Shapes
+pub mod UnknownSteps
 pub mod Validation

@@ -69,9 +69,13 @@ abbrev pub name_count : List Place → ℕ
 name_count [] = 0
 name_count (x ∷ xs) = max (above_name x) (name_count xs)
 
--- the memory that a table needs, in words of 32 bits
+-- the words of 32 bits that a table of n places with names below m needs
+abbrev pub words_for : ℕ → ℕ → ℕ
+words_for n m = n * (8 * m + 64) + 1024
+
+-- the memory that a table needs, in words
 abbrev pub needed : List Place → ℕ
-needed places = length places * (8 * name_count places + 64) + 1024
+needed places = words_for (length places) (name_count places)
 
 -- a fault, or else an answer
 abbrev pub unless : {A : Type 0} → A → Option Refusal → Result A Refusal

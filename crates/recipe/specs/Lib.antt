@@ -15,6 +15,7 @@ pub mod Marks
 pub mod Numbering
 pub mod Packing
 pub mod Printing
+pub mod Promise
 pub mod Recipes
 pub mod Refusals
 pub mod Sameness

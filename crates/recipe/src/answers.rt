@@ -1,6 +1,7 @@
 // What the rules say of answers, for every type of leaves and every sameness test.
 ghost use Rattle.std.specs.Prelude.{Bool};
 ghost use Rattle.recipe.specs.AnswerLaws.{AcceptedSatisfiable, LooksExact, LooksOnce, TellsExact, TellsOnce};
+ghost use Rattle.recipe.specs.Promise.{PromiseKept};
 
 // A right answer says exactly what holds: a tell that gets as far as matching is accepted exactly where a filling exists,
 // and refused with 14, 15 or 16 exactly where that cause is the first to apply; a look finds a label exactly where all
@@ -22,4 +23,10 @@ pub fn answers_are_unique<L>()
 // Y with nil. A history in which X and (X '()) is accepted is not right.
 pub fn accepted_tells_have_a_filling<L>()
     ensures { (same : L → L → Bool) → AcceptedSatisfiable same }
+{}
+
+// A right history keeps the promise: each tell of places of equal depth is accepted exactly where one filling satisfies it
+// and all tells accepted before it, each look gives what all such fillings have, and there always is such a filling.
+pub fn right_histories_keep_the_promise<L>()
+    ensures { (same : L → L → Bool) → PromiseKept same }
 {}

@@ -15,7 +15,10 @@ mod refusals;
 mod table_laws;
 
 pub use alike::alike_is_exact;
-pub use answers::{accepted_tells_have_a_filling, answers_are_exact, answers_are_unique};
+pub use answers::{
+    accepted_tells_have_a_filling, answers_are_exact, answers_are_unique,
+    right_histories_keep_the_promise,
+};
 pub use checking::{check, name_count};
 pub use equality::{
     binders_rename, covered_binders_rename, equality_is_an_equivalence, none_at_covered,
