@@ -19,7 +19,7 @@ nat_sameness = record {
 }
 
 -- a number is its own number among those below n
-own_number : (n i : ℕ) → i < n → number_of nat_eq (range_with_len 0 n) i ≡ Some i
+pub own_number : (n i : ℕ) → i < n → number_of nat_eq (range_with_len 0 n) i ≡ Some i
 own_number n i within =
     let at : (k : ℕ) → k < n → get_or (range_with_len 0 n) k i ≡ k = λ k h. get_or-range_with_len 0 n k i h ∙ omega arith in
     lowest_unique nat_eq (range_with_len 0 n) i (number_of nat_eq (range_with_len 0 n) i) (Some i) (number_lowest nat_eq (range_with_len 0 n) i)

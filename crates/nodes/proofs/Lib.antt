@@ -30,10 +30,10 @@ pub mod OwnParts
 pub mod PlaceParts
 pub mod PlacesInside
 pub mod PlacesLinked
-pub mod LevelsClimbed
+pub mod HeightsClimbed
 pub mod LikePlaces
 pub mod LowestHolesFound
-pub mod ScopeLevels
+pub mod ScopeHeights
 pub mod ScopesClimbed
 pub mod Written
 pub mod WrittenTables

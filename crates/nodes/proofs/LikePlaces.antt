@@ -12,7 +12,7 @@ use Rattle.recipe.specs.Recipes.{inside}
 use Rattle.recipe.specs.Scopes.{NameEqual}
 use Rattle.recipe.specs.Tables.{Form, Table, depth, scope}
 use Rattle.recipe.specs.Validity.{Ordered}
-use Rattle.nodes.specs.Levels.{FewNames}
+use Rattle.nodes.specs.Heights.{FewNames}
 use Rattle.nodes.specs.Records.{written, written_form}
 use Rattle.nodes.proofs.EqualPlaces.{depth_insides, equal_binds, equal_calls, equal_leaves, equal_names, equal_nils, finished_insides, finished_lefts, finished_rights, kinds_apart, no_hole, scopes_inside, scopes_left, scopes_right}
 use Rattle.nodes.proofs.FormsWritten.{bind_there, call_there, inside_up, kind_there, leaf_there, name_there, nil_there}

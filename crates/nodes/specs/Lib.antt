@@ -5,7 +5,7 @@ pub mod Cycles
 pub mod Entering
 pub mod HoldersWritten
 pub mod JoinedNames
-pub mod Levels
+pub mod Heights
 pub mod LowestHoles
 pub mod MisnamedRoots
 pub mod Misnaming

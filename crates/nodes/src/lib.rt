@@ -5,7 +5,7 @@ mod binders;
 mod clash;
 mod classes;
 mod cycle;
-mod levels;
+mod heights;
 mod likeness;
 mod lowest_hole;
 mod misnamed;

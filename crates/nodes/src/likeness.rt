@@ -5,21 +5,21 @@ ghost use Rattle.recipe.specs.Fillings.{Filling, Satisfies};
 ghost use Rattle.recipe.specs.Tables.{depth, scope};
 ghost use Rattle.recipe.specs.Validity.{Ordered};
 ghost use Rattle.nodes.specs.HoldersWritten.{HoldersWritten};
-ghost use Rattle.nodes.specs.Levels.{FewNames, HasLevels};
+ghost use Rattle.nodes.specs.Heights.{FewNames, HasHeights};
 ghost use Rattle.nodes.specs.Records.{HasRows, written};
 
 use crate::clash::kind_at;
-use crate::levels::{Levels, levels_at};
+use crate::heights::{Heights, heights_at};
 use crate::lowest_hole::{lower, lowest_hole};
 use recipe::{Kind, Refusal};
 
-// Whether two finished places are equal in their scopes, by their parts, side by side. The levels are those of the two places,
+// Whether two finished places are equal in their scopes, by their parts, side by side. The heights are those of the two places,
 // and are so again at the end.
 fn equal_places(
     words: &[u32],
     size: usize,
-    first: &mut Levels,
-    second: &mut Levels,
+    first: &mut Heights,
+    second: &mut Heights,
     p: usize,
     q: usize,
 ) -> bool
@@ -30,11 +30,11 @@ fn equal_places(
     requires second_place { q < size }
     requires one_depth { depth (written size words.now) p ≡ depth (written size words.now) q }
     requires finished { Finished (written size words.now) p q }
-    requires first_levels { HasLevels (scope (written size words.now) p) first.old }
-    requires second_levels { HasLevels (scope (written size words.now) q) second.old }
+    requires first_heights { HasHeights (scope (written size words.now) p) first.old }
+    requires second_heights { HasHeights (scope (written size words.now) q) second.old }
     ensures equal { (θ : Filling ℕ) → (result ≡ true) ↔ Satisfies nat_eq (written size words.now) θ (p, q) }
-    ensures first_levels { HasLevels (scope (written size words.now) p) first.new }
-    ensures second_levels { HasLevels (scope (written size words.now) q) second.new }
+    ensures first_heights { HasHeights (scope (written size words.now) p) first.new }
+    ensures second_heights { HasHeights (scope (written size words.now) q) second.new }
 {
     let kind = kind_at(words, p);
     if kind_at(words, q) != kind {
@@ -76,8 +76,8 @@ pub fn alike(words: &[u32], size: usize, p: usize, q: usize) -> Result<bool, Ref
     if q >= size {
         return Err(Refusal::NoSuchPlace { place: q });
     }
-    let mut first = levels_at(words, size, p);
-    let mut second = levels_at(words, size, q);
+    let mut first = heights_at(words, size, p);
+    let mut second = heights_at(words, size, q);
     if first.depth() != second.depth() {
         return Err(Refusal::UnequalDepths {
             first: p,

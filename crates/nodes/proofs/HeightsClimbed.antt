@@ -1,14 +1,14 @@
--- The levels in the scope of a place, from those in the scope of its holder. Assumes nothing.
+-- The heights in the scope of a place, from those in the scope of its holder. Assumes nothing.
 use Rattle.std.proofs.Common.{◌≡◌, ℕ, suc, ◌<◌, List, [], ◌∷◌, length, Some, None, refl, ap, ◌∙◌, inl, arith}
 use Rattle.recipe.specs.Recipes.{inside}
 use Rattle.recipe.specs.Scopes.{extended}
 use Rattle.recipe.specs.Tables.{Form, Table, scope}
 use Rattle.recipe.specs.Validity.{Ordered}
 use Rattle.nodes.specs.HoldersWritten.{HoldersWritten, written_holder}
-use Rattle.nodes.specs.Levels.{FewNames, HasLevels}
+use Rattle.nodes.specs.Heights.{FewNames, HasHeights}
 use Rattle.nodes.specs.NameSteps.{binder_of_form}
 use Rattle.nodes.specs.Records.{written, written_form}
-use Rattle.nodes.specs.declared.levels.Levels.{Levels}
+use Rattle.nodes.specs.declared.heights.Heights.{Heights}
 use Rattle.nodes.proofs.FirstRows.{form_written}
 use Rattle.nodes.proofs.ScopesClimbed.{held_scope, top_scope}
 
@@ -26,8 +26,8 @@ module _ (n : ℕ) (ws : List ℕ) (holders : HoldersWritten n ws) (p : ℕ) (lo
   T = written n ws
 
   -- a place without a holder
-  pub top_levels : (levels : Levels) → written_holder ws p ≡ None → HasLevels [] levels → HasLevels (scope T p) levels
-  top_levels levels e has = rw (top_scope n ws holders p low e) has
+  pub top_heights : (heights : Heights) → written_holder ws p ≡ None → HasHeights [] heights → HasHeights (scope T p) heights
+  top_heights heights e has = rw (top_scope n ws holders p low e) has
 
   module _ (h : ℕ) (held : written_holder ws p ≡ Some h) where
     pub holder_lower : h < p
@@ -37,8 +37,8 @@ module _ (n : ℕ) (ws : List ℕ) (holders : HoldersWritten n ws) (p : ℕ) (lo
     above = (held_scope n ws holders p h low held).1
 
     -- a holder that is no bind
-    pub same_levels : (levels : Levels) → binder_of_form (written_form ws h) ≡ None → HasLevels (scope T h) levels → HasLevels (scope T p) levels
-    same_levels levels e has = rw (above ∙ ap (λ o. extended o (scope T h)) e) has
+    pub same_heights : (heights : Heights) → binder_of_form (written_form ws h) ≡ None → HasHeights (scope T h) heights → HasHeights (scope T p) heights
+    same_heights heights e has = rw (above ∙ ap (λ o. extended o (scope T h)) e) has
 
     -- a holder that is a bind
     module _ (a : ℕ) (bound : binder_of_form (written_form ws h) ≡ Some a) where
@@ -51,12 +51,12 @@ module _ (n : ℕ) (ws : List ℕ) (holders : HoldersWritten n ws) (p : ℕ) (lo
           let (c, form) = bind_with (written_form ws h) a bound in
           few.binders h a (inside a c) (rw (form_written n ws h (omega arith) ∙ form) (inl refl)) refl
 
-      pub bound_shallow : (levels : Levels) → Ordered T → HasLevels (scope T h) levels → levels.depth < 64
-      bound_shallow levels ordered has =
+      pub bound_shallow : (heights : Heights) → Ordered T → HasHeights (scope T h) heights → heights.depth < 64
+      bound_shallow heights ordered has =
           let deep = ordered.shallow p low in
           let long : length (scope T p) ≡ suc (length (scope T h)) = ap length below in
           let depth = has.depth in
           omega arith
 
-      pub more_levels : (levels : Levels) → HasLevels (a ∷ scope T h) levels → HasLevels (scope T p) levels
-      more_levels levels has = rw below has
+      pub more_heights : (heights : Heights) → HasHeights (a ∷ scope T h) heights → HasHeights (scope T p) heights
+      more_heights heights has = rw below has

@@ -1,7 +1,7 @@
 use Rattle.std.proofs.Common.{get_or, not, ap}
 use Rattle.std.proofs.lemmas.Bool.{both_ways, ne_eqb}
-use Rattle.nodes.proofs.ScopeLevels.{names_apart, names_bound, names_free}
-use Rattle.nodes.proofs.levels.Levels.same_name.Goals as goal
+use Rattle.nodes.proofs.ScopeHeights.{names_apart, names_bound, names_free}
+use Rattle.nodes.proofs.heights.Heights.same_name.Goals as goal
 
 pub returns-then-here-ne0 : goal.returns-then-here-ne0
 returns-then-here-ne0 c = λ Φ Ψ one two long. (
