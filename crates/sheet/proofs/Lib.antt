@@ -1,8 +1,14 @@
-pub mod Answered
 pub mod Opened
 pub mod Exchanged
+pub mod LeavesListed
 pub mod Ranges
 pub mod Solving
-pub mod TellsRight
 pub mod Told
+pub mod WalksFound
 pub mod Whole
+pub mod Sheets
+pub mod SheetOpened
+pub mod Played
+pub mod RightPlay
+pub mod NumberedForms
+pub mod AllowedCalls

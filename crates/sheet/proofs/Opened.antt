@@ -1,14 +1,15 @@
 -- A memory in which a valid table is opened. Assumes nothing.
-use Rattle.std.proofs.Common.{◌≡◌, ℕ, ◌<◌, ◌≤◌, Bool, List, [], length, take, nat_eq, Some, sym, subst, refl, arith, le_refl, suc, ◌∷◌}
+use Rattle.std.proofs.Common.{◌≡◌, ◌∙◌, ap, Ok, is_ok, true, ℕ, ◌<◌, ◌≤◌, Bool, List, [], length, take, nat_eq, Some, sym, subst, refl, arith, le_refl, suc, ◌∷◌}
 use Rattle.std.proofs.lemmas.Bool.Decides.{nat_tests}
 use Rattle.std.specs.List.{range_with_len, slice_get}
-use Rattle.recipe.specs.Checking.{above_name, name_count, needed}
+use Rattle.recipe.specs.Checking.{above_name, checked, name_count, needed}
 use Rattle.recipe.specs.Fillings.{Satisfiable}
 use Rattle.recipe.specs.Recipes.{Recipe}
 use Rattle.recipe.specs.Sameness.{Sameness}
 use Rattle.recipe.specs.Tables.{Table, table_of}
 use Rattle.recipe.specs.Validity.{Fits, Valid}
 use Rattle.recipe.specs.declared.places.Place.{Place}
+use Rattle.recipe.proofs.Validation.{checked_needs, checked_valid}
 use Rattle.closure.specs.Decision.{HolesBelow, WellFormed}
 use Rattle.closure.specs.OtherLeaves.{SameTables}
 use Rattle.closure.proofs.OtherLeaves.{alike_back, alike_hole, ready_over}
@@ -92,3 +93,13 @@ names_few {places = places} {ls = ls} valid = count_few places (λ p x at. above
 -- the words that are used are within the need
 pub used_needed : (places : List Place) → 0 < length places → used (length places) (name_count places) ≤ needed places
 used_needed places some = grind (arith, some)
+
+-- where the answer is a number, it is the need
+pub is_needed : {L : Type 0} (places : List Place) (ls : List L) (n : ℕ) → Ok n ≡ checked places ls → n ≡ needed places
+is_needed places ls n is =
+    let both : Ok n ≡ Ok (needed places) = is ∙ checked_needs places ls (ap is_ok (sym is)) in
+    cc
+
+-- a valid table is accepted
+pub checked_ok : {L : Type 0} {places : List Place} {ls : List L} → Valid places ls → is_ok (checked places ls) ≡ true
+checked_ok {places = places} {ls = ls} valid = (checked_valid places ls).1 valid

@@ -8,9 +8,10 @@ use Rattle.recipe.specs.Tells.{Decided}
 use Rattle.recipe.specs.declared.refusals.Refusal.{Refusal}
 use Rattle.closure.specs.Decision.{WellFormed}
 use Rattle.closure.proofs.OtherLeaves.{ready_more}
+use Rattle.nodes.specs.Heights.{FewNames}
 use Rattle.nodes.specs.Records.{written}
 use Rattle.sheet.specs.Layout.{forests_length, forests_start, records, used}
-use Rattle.sheet.specs.Solved.{SlicesHold, Solved, written_table}
+use Rattle.sheet.specs.Solved.{HasTable, SlicesHold, Solved, written_table}
 use Rattle.sheet.proofs.Told.{one_longer}
 use Rattle.sheet.proofs.Whole.{Cut, memory_holds, past_is, records_is, slices_hold, table_is}
 
@@ -75,3 +76,10 @@ module _ {size m : ℕ} {ws f a b r vs g c d : List ℕ} (old : Cut size m ws f 
         filled = subst (λ T. Satisfiable nat_eq T (told ++ accepted_pair p q answer)) (sym table_again) (decided_filled told p q answer solved.filled decided);
         words = λ some. memory_holds new many hold;
       }
+
+-- the names of a table in the words are below 64
+pub few_names : {size m : ℕ} {ws : List ℕ} → HasTable size m ws → FewNames (written_table size ws)
+few_names table = record {
+  names = λ p x e. omega (arith, table.ready.names p x e, table.few_names);
+  binders = λ p a y i e. omega (arith, table.ready.binders p a y i e, table.few_names);
+}

@@ -5,7 +5,8 @@ use mathlib.Core.List.{append-nil}
 use Rattle.recipe.specs.Fillings.{Pair}
 use Rattle.recipe.specs.Histories.{accepted_pair}
 use Rattle.recipe.specs.declared.refusals.Refusal.{Refusal}
-use Rattle.sheet.specs.Layout.{forests_start, marks_start, pair_words, records}
+use Rattle.sheet.specs.Layout.{forests_start, marks_start, records}
+use Rattle.sheet.specs.Sheet.{pair_words}
 use Rattle.sheet.specs.Solved.{EnteredIn, HasTable, SlicesHold, written_table}
 use Rattle.nodes.specs.Records.{written}
 use Rattle.sheet.proofs.Whole.{same_records, table_over}

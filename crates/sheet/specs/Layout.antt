@@ -1,6 +1,5 @@
--- Where things stand in the words of a memory: told pairs, records, marks, and the two forests twice. Assumes nothing. (docs/RULES.md, "The memory")
-use Rattle.std.specs.Prelude.{◌≡◌, ℕ, suc, ◌+◌, ◌*◌, ◌<◌, ◌≤◌, List, [], ◌∷◌, drop, slice_range, take}
-use Rattle.recipe.specs.Fillings.{Pair}
+-- Where things stand in the words of a memory: told pairs, records, marks, and the two forests twice. Only private functions cite it. Assumes nothing. (docs/RULES.md, "The memory")
+use Rattle.std.specs.Prelude.{◌≡◌, ℕ, suc, ◌+◌, ◌*◌, ◌<◌, ◌≤◌, List, drop, slice_range, take}
 
 -- the told pairs have the first 1,024 words, two a pair; then come the records, eight words a place
 abbrev pub records_start : ℕ
@@ -45,8 +44,3 @@ places_rows size forests = take (4 * size) forests
 -- the rows of the forest over names
 abbrev pub names_rows : ℕ → List ℕ → List ℕ
 names_rows size forests = drop (4 * size) forests
-
--- the words of pairs, in order
-abbrev pub pair_words : List Pair → List ℕ
-pair_words [] = []
-pair_words ((p, q) ∷ told) = p ∷ q ∷ pair_words told

@@ -1,3 +1,9 @@
-pub mod Answering
+pub mod Calls
 pub mod Layout
+pub mod Opening
+pub mod Sheet
 pub mod Solved
+pub mod Spots
+pub mod Views
+pub mod Playing
+pub mod SheetLaws

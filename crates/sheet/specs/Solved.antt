@@ -1,7 +1,6 @@
--- What a memory holds of a table and its told pairs. Assumes nothing. (docs/RULES.md, "The memory")
+-- What a memory holds of a table and its told pairs. Only private functions cite it. Assumes nothing. (docs/RULES.md, "The memory")
 use Rattle.std.specs.Prelude.{◌≡◌, ℕ, ◌*◌, ◌<◌, ◌≤◌, Bool, List, [], ◌∷◌, ◌++◌, length, nat_eq, take}
 use Rattle.std.specs.List.{range_with_len}
-use Rattle.recipe.specs.Checking.{name_count}
 use Rattle.recipe.specs.Fillings.{Pair, Satisfiable}
 use Rattle.recipe.specs.Tables.{Table, table_of}
 use Rattle.recipe.specs.declared.places.Place.{Place}
@@ -10,7 +9,8 @@ use Rattle.closure.specs.OtherLeaves.{SameTables}
 use Rattle.nodes.specs.Entering.{Entered}
 use Rattle.nodes.specs.HoldersWritten.{HoldersWritten}
 use Rattle.nodes.specs.Records.{written}
-use Rattle.sheet.specs.Layout.{first_copy, forests_start, names_rows, pair_words, places_rows, records, second_copy, used}
+use Rattle.sheet.specs.Layout.{first_copy, forests_start, names_rows, places_rows, records, second_copy, used}
+use Rattle.sheet.specs.Sheet.{pair_words}
 
 -- the table that the records write
 abbrev pub written_table : ℕ → List ℕ → Table ℕ
@@ -20,7 +20,7 @@ written_table size ws = written size (records size ws)
 abbrev pub EnteredIn : {L : Type 0} → Table L → ℕ → List Pair → List ℕ → Type 0
 EnteredIn T m told forests = Entered T m told (places_rows T.size forests) (names_rows T.size forests)
 
--- they have so for some told pairs that are well formed with the pair p, q after them (only private functions cite it)
+-- they have so for some told pairs that are well formed with the pair p, q after them
 abbrev pub EnteredInBefore : {L : Type 0} → Table L → ℕ → ℕ → ℕ → List ℕ → Type 0
 EnteredInBefore T m p q forests =
     (told : List Pair) × WellFormed T m (told ++ ((p, q) ∷ [])) × EnteredIn T m told forests
@@ -54,12 +54,7 @@ abbrev pub CopiesTable : {L : Type 0} → (L → L → Bool) → List Place → 
 CopiesTable same places ls ws =
     SameTables same nat_eq (table_of places ls) (written_table (length places) ws) ls (range_with_len 0 (length ls))
 
--- a memory is solved for told pairs of the table of these records
-pub record SolvedFor {L : Type 0} (same : L → L → Bool) (places : List Place) (ls : List L) (told : List Pair) (ws : List ℕ) : Type 0 where
-  pub solved : Solved (length places) (name_count places) told ws
-  pub copied : CopiesTable same places ls ws
-
--- the same of what stands before the forests, the forests and the forests again (only private functions cite it)
+-- the same of what stands before the forests, the forests and the forests again
 pub record SlicesHold (size m : ℕ) (told : List Pair) (before forests again : List ℕ) : Type 0 where
   pub table : HasTable size m before
   pub pairs : take (2 * length told) before ≡ pair_words told

@@ -1,7 +1,6 @@
 // What a solved memory says of its table. These functions write nothing.
-ghost use Rattle.std.specs.Prelude.{◌≡◌, ◌<◌, ◌↔◌, List, true};
+ghost use Rattle.std.specs.Prelude.{◌<◌, List};
 ghost use Rattle.recipe.specs.Fillings.{Pair};
-ghost use Rattle.closure.specs.Decision.{OnlyHoles};
 ghost use Rattle.nodes.specs.JoinedNames.{FindsJoined};
 ghost use Rattle.nodes.specs.NonHoles.{FindsNonHole};
 ghost use Rattle.sheet.specs.Solved.{Solved, written_table};
@@ -9,7 +8,7 @@ ghost use Rattle.sheet.specs.Solved.{Solved, written_table};
 use crate::layout::{first_rows, records_of};
 
 // The lowest place that is linked with `p` and is no hole, or none where only holes are, so that the class is open.
-pub fn non_hole(memory: &[u32], size: usize, names: usize, p: usize) -> Option<usize>
+pub(crate) fn non_hole(memory: &[u32], size: usize, names: usize, p: usize) -> Option<usize>
     requires solved { (told : List Pair) × Solved size names told memory.now }
     requires place { p < size }
     ensures { (told : List Pair) → Solved size names told memory.now → FindsNonHole (written_table size memory.now) told p result }
@@ -18,17 +17,8 @@ pub fn non_hole(memory: &[u32], size: usize, names: usize, p: usize) -> Option<u
     nodes::non_hole(rows, records_of(memory, size), size, p)
 }
 
-// Whether only holes are linked with `p`.
-pub fn is_open(memory: &[u32], size: usize, names: usize, p: usize) -> bool
-    requires solved { (told : List Pair) × Solved size names told memory.now }
-    requires place { p < size }
-    ensures { (told : List Pair) → Solved size names told memory.now → (result ≡ true) ↔ OnlyHoles (written_table size memory.now) told p }
-{
-    non_hole(memory, size, names, p).is_none()
-}
-
 // The lowest name of `q` that is joined with the name `x` of `p`, if one is.
-pub fn joined_name(
+pub(crate) fn joined_name(
     memory: &[u32],
     size: usize,
     names: usize,

@@ -1,14 +1,24 @@
-// A table and its told pairs in one lent memory: opening, telling, and what the memory then says.
+// Sheets: a table of recipes is opened in a lent memory, told which places are to be equal, looked at, and sealed.
 #![tactic(auto)]
 
-mod answering;
 mod answers;
+mod calls;
+mod comparing;
 mod forests;
+mod laws;
 mod layout;
+mod looking;
+mod open_sheet;
 mod opening;
+mod playing;
+mod sealed_sheet;
+mod seeing;
+mod spots;
 mod telling;
+mod walking;
 
-pub use answering::{Tell, answer_tells};
-pub use answers::{is_open, joined_name, non_hole};
-pub use opening::open_memory;
-pub use telling::tell;
+pub use calls::{Call, Calls, Look, Tell};
+pub use laws::{answers_are_of_the_table, calls_are_the_allowed_lists};
+pub use open_sheet::{OpenSheet, open};
+pub use playing::play;
+pub use sealed_sheet::SealedSheet;

@@ -115,7 +115,7 @@ fn test_tell(
 // unequal depth, and a tell after 512; else it is accepted exactly where all pairs have a filling in common, and refused
 // with the first cause where not. Accepted, the memory is solved for the pairs and the new one; refused, for the pairs as
 // before.
-pub fn tell(
+pub(crate) fn tell(
     memory: &mut [u32],
     size: usize,
     names: usize,
