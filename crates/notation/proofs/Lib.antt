@@ -8,6 +8,7 @@ pub mod LeavesRead
 pub mod ListRows
 pub mod ListTurns
 pub mod Listed
+pub mod MeaningRead
 pub mod Numbering
 pub mod NumbersRead
 pub mod OneToken
@@ -15,11 +16,13 @@ pub mod PartsRead
 pub mod Placed
 pub mod Progressing
 pub mod Rooms
+pub mod RootsRead
 pub mod Shorts
 pub mod Spelled
 pub mod Staying
 pub mod Sweeps
 pub mod Texts
+pub mod TextsRead
 pub mod Threaded
 pub mod TokensShort
 pub mod Turned

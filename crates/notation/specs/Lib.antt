@@ -3,6 +3,7 @@ pub mod LentLists
 pub mod Fitting
 pub mod Grammar
 pub mod Machine
+pub mod Meaning
 pub mod Progress
 pub mod Reading
 pub mod Sweeping

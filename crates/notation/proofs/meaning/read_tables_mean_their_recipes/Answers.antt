@@ -1,0 +1,5 @@
+use Rattle.notation.proofs.MeaningRead.{recipes_meant, counted_meant}
+use Rattle.notation.proofs.meaning.read_tables_mean_their_recipes.Goals as goal
+
+pub returns : goal.returns
+returns g c = record { recipes = recipes_meant; counts = counted_meant }
