@@ -19,6 +19,7 @@ pub mod Rooms
 pub mod RootsRead
 pub mod Shorts
 pub mod Spelled
+pub mod SpellingsListed
 pub mod Staying
 pub mod Sweeps
 pub mod Texts

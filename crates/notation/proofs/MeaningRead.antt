@@ -5,14 +5,14 @@ use Rattle.recipe.specs.Tables.{table_of}
 use Rattle.recipe.proofs.ByParts.{root_scope}
 use Rattle.notation.specs.Meaning.{Means, ReadTablesMean, CountedTablesMean}
 use Rattle.notation.specs.Tables.{places_of}
-use Rattle.notation.proofs.RootsRead.{roots_read}
+use Rattle.notation.proofs.RootsRead.{roots_read, roots_rise}
 use Rattle.notation.proofs.TextsRead.{texts_read}
 
 -- the table of recipes
 pub recipes_meant : {L : Type 0} → ReadTablesMean L
 recipes_meant reads ts ls more h =
     let T = table_of (places_of ts) (ls ++ more) in
-    record { roots = roots_read ts (ls ++ more); scopes = root_scope T; texts = texts_read reads ts ls more h }
+    record { roots = roots_read ts (ls ++ more); order = roots_rise ts; scopes = root_scope T; texts = texts_read reads ts ls more h }
 
 -- the places that a reading has filled
 pub counted_meant : {L : Type 0} → CountedTablesMean L

@@ -1,6 +1,8 @@
 -- The roots of a table of recipes are the places of the recipes. Assumes nothing.
-use Rattle.std.proofs.Common.{◌≡◌, ℕ, suc, ◌+◌, ◌<◌, ◌≤◌, ◌⊎◌, inl, inr, ◌↔◌, List, [], ◌∷◌, ◌++◌, length, refl, sym, subst, zero-add, length-append, arith}
+use Rattle.std.proofs.Common.{◌≡◌, ℕ, zero, suc, ◌+◌, ◌<◌, ◌≤◌, ◌⊎◌, inl, inr, ◌↔◌, List, [], ◌∷◌, ◌++◌, length, refl, sym, subst, zero-add, length-append, arith}
 use Rattle.std.proofs.lemmas.Bool.{cases_order}
+use Rattle.std.specs.Prelude.{slice_index}
+use Rattle.std.specs.List.Sorted.{IsStrictlyIncreasing}
 use Rattle.recipe.specs.declared.places.Place.{Place}
 use Rattle.recipe.specs.Common.{In}
 use Rattle.recipe.specs.Recipes.{Part, left, right, inside}
@@ -129,3 +131,18 @@ roots_read ts ls p = (root, place)
       omega (arith, (root_within (names_of ts) (holes_of ts) ts 0 0 p i).1),
       λ q x j e. root_free (names_of ts) (holes_of ts) ts 0 0 p i q x (held ts ls q x j) e,
     )
+
+-- each recipe has a higher place than those before it
+next_higher : (ts : List Tree) (p k : ℕ) → suc k < length (roots_from p ts) → slice_index (roots_from p ts) k < slice_index (roots_from p ts) (suc k)
+unfolding roots_from
+next_higher [] p k within = absurd (omega arith)
+next_higher (t ∷ []) p k within = absurd (omega arith)
+next_higher (t ∷ u ∷ ts) p zero within = omega (arith, size_some t)
+next_higher (t ∷ u ∷ ts) p (suc k) within = next_higher (u ∷ ts) (p + size t) k (omega arith)
+
+pub roots_rise : (ts : List Tree) → IsStrictlyIncreasing (roots_of ts)
+roots_rise ts k within =
+    subst (λ n. slice_index (roots_of ts) k < slice_index (roots_of ts) n) (next k) (next_higher ts 0 k (omega (arith, within)))
+  where
+    next : (n : ℕ) → suc n ≡ n + 1
+    next n = omega arith

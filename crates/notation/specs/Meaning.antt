@@ -1,5 +1,7 @@
 -- What the recipes of a text mean: finished recipes, where the holes are filled. Assumes nothing. (docs/RULES.md, "Notation")
 use Rattle.std.specs.Prelude.{◌≡◌, ℕ, ◌+◌, ◌↔◌, List, [], ◌∷◌, ◌++◌, map, take, Some, None, Option}
+use Rattle.std.specs.List.{slice_get}
+use Rattle.std.specs.List.Sorted.{IsStrictlyIncreasing}
 use Rattle.tokens.specs.Tokens.{Token}
 use Rattle.recipe.specs.Common.{In}
 use Rattle.recipe.specs.Fillings.{Filling, filled}
@@ -8,7 +10,7 @@ use Rattle.recipe.specs.Tables.{Table, Root, scope, table_of}
 use Rattle.notation.specs.declared.counts.Counts.{Counts}
 use Rattle.notation.specs.Grammar.{Tree}
 use Rattle.notation.specs.Reading.{Lists, ReadAs, Accepts}
-use Rattle.notation.specs.Tables.{number, size, names_of, holes_of, leaves_of, places_of}
+use Rattle.notation.specs.Tables.{number, size, names, holes, of_each, names_of, holes_of, leaves_of, places_of}
 
 -- the leaf that a word is read as; nil where it is read as none, which no leaf word of an accepted text is
 abbrev pub leaf_read : {L : Type 0} → Option L → Recipe L
@@ -34,9 +36,10 @@ roots_from p (t ∷ ts) = p ∷ roots_from (p + size t) ts
 abbrev pub roots_of : List Tree → List ℕ
 roots_of ts = roots_from 0 ts
 
--- a table means recipes: its roots are their places and have empty scopes, and the filled texts of these are the recipes, in order
+-- a table means recipes: its roots are their places, in rising order, and have empty scopes, and their filled texts are the recipes, in the same order
 pub record Means {L : Type 0} (reads : List ℕ → Option L) (ts : List Tree) (T : Table L) : Type 0 where
   pub roots : (p : ℕ) → Root T p ↔ In p (roots_of ts)
+  pub order : IsStrictlyIncreasing (roots_of ts)
   pub scopes : (p : ℕ) → Root T p → scope T p ≡ []
   pub texts : (θ : Filling L) → map (filled T θ) (roots_of ts) ≡ map (recipe_of reads (names_of ts) (holes_of ts) θ) ts
 
@@ -49,3 +52,8 @@ ReadTablesMean L =
 abbrev pub CountedTablesMean : Type 0 → Type 0
 CountedTablesMean L =
     (reads : List ℕ → Option L) (size : ℕ) (s : List Token) (old new : Lists L) (counts : Counts) (accepts : Accepts reads size s old new counts) (ls : List L) → take counts.leaves ls ≡ take counts.leaves new.leaves → Means reads accepts.trees (table_of (take counts.places new.places) ls)
+
+-- the number of each name of recipes is the index at which their list of names has its spelling, and so for holes; so different ones have different numbers
+pub record NumbersTell (ts : List Tree) : Type 0 where
+  pub names : (w : List ℕ) → In w (of_each names ts) → slice_get (names_of ts) (number (names_of ts) w) ≡ Some w
+  pub holes : (w : List ℕ) → In w (of_each holes ts) → slice_get (holes_of ts) (number (holes_of ts) w) ≡ Some w
