@@ -70,13 +70,20 @@ leaf_layer : {L : Type 0} (θ : Filling L) (f : ℕ → Recipe L) (o : Option L)
 leaf_layer θ f None = refl
 leaf_layer θ f (Some l) = refl
 
-module _ {L : Type 0} (T : Table L) (ls : List L) (θ : Filling L) (layers : (p : ℕ) → filled T θ p ≡ layer θ (filled T θ) (T.form p)) (reads : List ℕ → Option L) (ns hs : List (List ℕ)) where
+module _ {L : Type 0} (T : Table L) (ls : List L) (θ : Filling L) (layers : (p : ℕ) → filled T θ p ≡ layer θ (filled T θ) (T.form p)) (reads : List ℕ → Option L) (text : List Tree) where
+  -- the names and the holes of the text
+  abbrev ns : List (List ℕ)
+  ns = names_of text
+
+  abbrev hs : List (List ℕ)
+  hs = holes_of text
+
   -- the filled text where a record stands
   text_at : (p : ℕ) (r : Place) → T.form p ≡ form_of ls r → filled T θ p ≡ layer θ (filled T θ) (form_of ls r)
   text_at p r e = layers p ∙ ap (layer θ (filled T θ)) e
 
   -- that of a recipe
-  text_read : (t : Tree) (p l : ℕ) → Laid T ls p (rows_from ns hs p l t) → LeavesAt reads ls l (leaves t) → filled T θ p ≡ recipe_of reads ns hs θ t
+  text_read : (t : Tree) (p l : ℕ) → Laid T ls p (rows_from ns hs p l t) → LeavesAt reads ls l (leaves t) → filled T θ p ≡ recipe_of reads text θ t
   unfolding rows_from leaves recipe_of
   text_read Tree.nil p l laid at = text_at p (row 0 0 0) laid.0
   text_read (Tree.leaf w) p l laid at = text_at p (row 1 l 0) laid.0 ∙ leaf_layer θ (filled T θ) (slice_get ls l) ∙ ap leaf_read at.0
@@ -93,7 +100,7 @@ module _ {L : Type 0} (T : Table L) (ls : List L) (θ : Filling L) (layers : (p 
       text_at p (row 5 (suc p) m) laid.0 ∙ ap₂ (λ x y. Recipe.call x y) (text_read t (suc p) l both.0 words.0) (text_read u m k both.1 words.1)
 
   -- those of recipes
-  texts_from : (ts : List Tree) (p l : ℕ) → Laid T ls p (all_rows_from ns hs p l ts) → LeavesAt reads ls l (of_each leaves ts) → map (filled T θ) (roots_from p ts) ≡ map (recipe_of reads ns hs θ) ts
+  texts_from : (ts : List Tree) (p l : ℕ) → Laid T ls p (all_rows_from ns hs p l ts) → LeavesAt reads ls l (of_each leaves ts) → map (filled T θ) (roots_from p ts) ≡ map (recipe_of reads text θ) ts
   unfolding all_rows_from of_each roots_from
   texts_from [] p l laid at = refl
   texts_from (t ∷ ts) p l laid at =
@@ -113,10 +120,10 @@ rising_read ts ls = record {
 }
 
 -- the filled texts at the places of recipes
-pub texts_read : {L : Type 0} (reads : List ℕ → Option L) (ts : List Tree) (ls more : List L) → ReadAs reads (leaves_of ts) ls → (θ : Filling L) → map (filled (table_of (places_of ts) (ls ++ more)) θ) (roots_of ts) ≡ map (recipe_of reads (names_of ts) (holes_of ts) θ) ts
+pub texts_read : {L : Type 0} (reads : List ℕ → Option L) (ts : List Tree) (ls more : List L) → ReadAs reads (leaves_of ts) ls → (θ : Filling L) → map (filled (table_of (places_of ts) (ls ++ more)) θ) (roots_of ts) ≡ map (recipe_of reads ts θ) ts
 texts_read reads ts ls more h θ =
     let all = ls ++ more in
     let T = table_of (places_of ts) all in
-    texts_from T all θ (filled_layer T θ (rising_read ts all)) reads (names_of ts) (holes_of ts) ts 0 0
+    texts_from T all θ (filled_layer T θ (rising_read ts all)) reads ts ts 0 0
     (laid_at T all (places_of ts) 0 (λ q n e. ap (λ i. form_at all (slice_get (places_of ts) i)) (e ∙ zero-add q)))
     (leaves_at reads all (leaves_of ts) ls 0 h (λ q n x e at. ap (λ i. slice_get all i) (e ∙ zero-add q) ∙ front_at ls more q x at))
