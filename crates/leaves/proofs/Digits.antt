@@ -11,7 +11,7 @@ use Rattle.std.specs.Str.Parse.{digits_value, digits_value_after, ParsesUnsigned
 use Rattle.leaves.specs.RateReading.{is_numeral}
 use Rattle.leaves.specs.RatesLemmas.{numeral_parts}
 
-own : IsNumeralModel (λ ds. list_all is_ascii_digit ds ≡ true) (digits_value 10)
+pub own : IsNumeralModel (λ ds. list_all is_ascii_digit ds ≡ true) (digits_value 10)
 own = numerals_by_value _ (search rules)
 
 -- a numeral is a text

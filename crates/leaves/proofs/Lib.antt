@@ -1,2 +1,3 @@
 pub mod Digits
+pub mod RatesPrinted
 pub mod Symbols

@@ -1,3 +1,4 @@
+pub mod Printing
 pub mod RateReading
 pub mod Rates
 pub mod Symbols

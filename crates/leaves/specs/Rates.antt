@@ -1,5 +1,5 @@
 -- How rates are spelled, and when two are the same. Assumes nothing. (docs/RULES.md, "Rates")
-use Rattle.std.specs.Prelude.{◌≡◌, ℕ, ◌*◌, ◌^◌, ◌≤◌, Bool, true, cond, ◌&&◌, ◌||◌, ◌↔◌, List, ◌∷◌, ◌++◌, length, Some, Option, ◌==◌}
+use Rattle.std.specs.Prelude.{◌≡◌, ℕ, ◌*◌, ◌^◌, ◌≤◌, Bool, true, cond, ◌&&◌, ◌||◌, ◌↔◌, List, ◌∷◌, ◌++◌, length, Some, Option, codes, ◌==◌}
 use Rattle.std.specs.Str.Parse.{digits_value}
 use Rattle.std.specs.Char.{is_ascii_digit}
 use Rattle.std.specs.List.{list_all}
@@ -36,3 +36,7 @@ SpelledBy word r = (x : Rate) → (r ≡ Some x) ↔ SpellsRate word x
 abbrev pub same_rate : Rate → Rate → Bool
 same_rate x y =
     cond (x.denominator == 0 || y.denominator == 0) (x.numerator == y.numerator && x.denominator == y.denominator) (x.numerator * y.denominator == y.numerator * x.denominator)
+
+-- a word of 21 bytes that spells a rate
+abbrev pub longest_rate : List ℕ
+longest_rate = codes "2147483647/2147483647"

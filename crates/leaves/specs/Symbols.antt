@@ -1,5 +1,5 @@
 -- How symbols are spelled, and when two are the same. Assumes nothing. (docs/RULES.md, "Symbols")
-use Rattle.std.specs.Prelude.{◌≡◌, ℕ, Bool, false, cond, ◌&&◌, ◌||◌, List, [], ◌∷◌, length, Some, None, Option, ◌==◌, nat_le}
+use Rattle.std.specs.Prelude.{◌≡◌, ℕ, Bool, false, cond, ◌&&◌, ◌||◌, List, [], ◌∷◌, length, Some, None, Option, codes, ◌==◌, nat_le}
 use Rattle.std.specs.Char.{is_ascii_digit, is_ascii_lowercase}
 use Rattle.recipe.specs.Packing.{packed}
 use Rattle.std.specs.List.{list_all}
@@ -30,3 +30,7 @@ same_symbol x y = x.packed == y.packed
 -- where a word spells the symbol r, no other word spells it: the packed number tells the bytes
 abbrev pub OnlyWord : List ℕ → Option Symbol → Type 0
 OnlyWord word r = (other : List ℕ) (x : Symbol) → r ≡ Some x → symbol_of other ≡ Some x → other ≡ word
+
+-- a word of nine bytes that spells a symbol
+abbrev pub longest_symbol : List ℕ
+longest_symbol = codes "'abcdefgh"

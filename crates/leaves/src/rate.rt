@@ -1,15 +1,18 @@
 // Rates: fractions of whole numbers, as frame rates are given.
-ghost use Rattle.std.specs.Prelude.{◌≡◌, ◌≤◌};
+ghost use Rattle.std.specs.Prelude.{◌≡◌, ◌≤◌, Some};
 ghost use Rattle.std.specs.Char.{is_ascii_digit};
 ghost use Rattle.std.specs.List.{list_all, prefix_len};
+ghost use Rattle.leaves.specs.Printing.{rate_text};
 ghost use Rattle.leaves.specs.RateReading.{is_numeral, numeral_of, ratio as ratio_of, whole_rate, fraction_rate, decimal_rate, rate_after, rate_of};
 ghost use Rattle.leaves.specs.Rates.{SpelledBy, same_rate};
 ghost use Rattle.leaves.specs.CrossProducts.{rate_reflexive, rate_symmetric, rate_transitive};
 ghost use Rattle.leaves.specs.RatesLemmas.{rate_bounded};
 
 use recipe::Leaf;
+use std::fmt;
 
-// A numerator over a denominator, as spelled: `==` compares the two numbers, `same` what they stand for.
+/// A numerator over a denominator, as spelled: `==` compares the two numbers, `same` what they stand for. It prints as in `24/1`.
+/// docs/RULES.md, "Rates".
 #[derive(Clone, Copy, Debug, PartialEq, Eq)]
 pub struct Rate {
     pub numerator: u32,
@@ -136,5 +139,13 @@ impl Leaf for Rate {
         let left = u64::from(self.numerator) * u64::from(other.denominator);
         let right = u64::from(other.numerator) * u64::from(self.denominator);
         left == right
+    }
+}
+
+impl fmt::Display for Rate {
+    ghost output = { λ rate. Some (rate_text rate) };
+
+    fn fmt<W: fmt::Write>(&self, f: &mut fmt::Formatter<W>) -> fmt::Result {
+        write!(f, "{}/{}", self.numerator, self.denominator)
     }
 }

@@ -1,12 +1,15 @@
 // Symbols: an apostrophe and a short name.
-ghost use Rattle.std.specs.Prelude.{◌≡◌};
+ghost use Rattle.std.specs.Prelude.{◌≡◌, Some};
 ghost use Rattle.std.specs.List.{list_all};
+ghost use Rattle.leaves.specs.Printing.{symbol_text};
 ghost use Rattle.leaves.specs.Symbols.{symbol_of, same_symbol, name_byte, is_tail, is_name, OnlyWord};
 ghost use Rattle.std.proofs.Common.{rules};
 
-use recipe::{Leaf, pack};
+use recipe::{Leaf, PackedSpelling, pack};
+use std::fmt;
 
-// The bytes of the name after the apostrophe, packed into one number: the first byte highest, zero filled.
+/// The bytes of the name after the apostrophe, packed into one number: the first byte highest, zero filled. It prints as it is
+/// spelled, as in `'lift`. docs/RULES.md, "Symbols".
 #[derive(Clone, Copy, Debug, PartialEq, Eq)]
 pub struct Symbol {
     pub packed: u64,
@@ -75,5 +78,14 @@ impl Leaf for Symbol {
 
     fn same(&self, other: &Symbol) -> bool {
         self == other
+    }
+}
+
+impl fmt::Display for Symbol {
+    ghost output = { λ symbol. Some (symbol_text symbol) };
+
+    fn fmt<W: fmt::Write>(&self, f: &mut fmt::Formatter<W>) -> fmt::Result {
+        let name = PackedSpelling(self.packed);
+        write!(f, "'{name}")
     }
 }

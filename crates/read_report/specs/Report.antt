@@ -1,35 +1,28 @@
 -- The report on how a text is read, byte by byte. Assumes nothing. (docs/RULES.md, "Reports on places")
-use Rattle.std.specs.Prelude.{◌≡◌, ℕ, Bool, not, List, [], ◌∷◌, ◌++◌, length, take, replicate, Some, None, Option, Ok, Err, Result, codes, decimal, ◌==◌}
-use Rattle.std.specs.Int.{w64, to_be_bytes}
-use Rattle.std.specs.List.{take_while, slice_get, flat_map, enumerate_from}
+use Rattle.std.specs.Prelude.{◌≡◌, ℕ, List, [], ◌∷◌, ◌++◌, length, take, replicate, Some, None, Option, Ok, Err, Result, codes, decimal}
+use Rattle.std.specs.List.{slice_get, flat_map, enumerate_from}
+use Rattle.recipe.specs.Packing.{spelling_text}
 use Rattle.recipe.specs.Refusals.{refusal_text}
 use Rattle.recipe.specs.declared.places.Kind.{Kind}
 use Rattle.recipe.specs.declared.places.Place.{Place}
 use Rattle.recipe.specs.declared.refusals.Refusal.{Refusal}
 use Rattle.leaves.specs.declared.symbol.Symbol.{Symbol}
+use Rattle.leaves.specs.Printing.{symbol_text}
 use Rattle.leaves.specs.Symbols.{symbol_of}
 use Rattle.tokens.specs.Tokens.{tokens}
 use Rattle.notation.specs.Tables.{row}
 use Rattle.notation.specs.Reading.{Lists, Reads}
 use Rattle.notation.specs.declared.counts.Counts.{Counts}
 
--- a byte that is no zero
-abbrev pub is_filled : ℕ → Bool
-is_filled b = not (b == 0)
-
--- the spelling that a number packs: its eight bytes, the highest first, without the zeros that fill it
-unfoldable pub spelling_of : ℕ → List ℕ
-spelling_of n = take_while is_filled (to_be_bytes w64 n)
-
 -- a spelling of a list after a space, or nothing where the list has none
 abbrev pub word_text : Option ℕ → List ℕ
 word_text None = []
-word_text (Some n) = codes " " ++ spelling_of n
+word_text (Some n) = codes " " ++ spelling_text n
 
--- a symbol as it is spelled, with its apostrophe, after a space, or nothing where the list has none
-abbrev pub symbol_text : Option Symbol → List ℕ
-symbol_text None = []
-symbol_text (Some s) = codes " '" ++ spelling_of s.packed
+-- a symbol of a list after a space, or nothing where the list has none
+abbrev pub leaf_text : Option Symbol → List ℕ
+leaf_text None = []
+leaf_text (Some s) = codes " " ++ symbol_text s
 
 -- the kind that has the number in records, if one has
 abbrev pub kind_of : ℕ → Option Kind
@@ -49,7 +42,7 @@ kind_text a b (Some Kind.Call) = codes "call " ++ decimal a ++ codes " " ++ deci
 abbrev pub spelled : Lists Symbol → ℕ → Option Kind → List ℕ
 spelled lists a None = []
 spelled lists a (Some Kind.Nil) = []
-spelled lists a (Some Kind.Leaf) = symbol_text (slice_get lists.leaves a)
+spelled lists a (Some Kind.Leaf) = leaf_text (slice_get lists.leaves a)
 spelled lists a (Some Kind.Name) = word_text (slice_get lists.names a)
 spelled lists a (Some Kind.Hole) = word_text (slice_get lists.holes a)
 spelled lists a (Some Kind.Bind) = word_text (slice_get lists.names a)

@@ -1,12 +1,6 @@
-// What a report tells: these functions do nothing, and their contracts are the theorems.
+// What a report tells: the function does nothing, and its contract is the theorem.
 ghost use Rattle.std.specs.Prelude.{◌≡◌, ℕ, List};
-ghost use Rattle.recipe.specs.Packing.{packed, Spelling};
-ghost use Rattle.read_report.specs.Report.{spelling_of, Reports};
-
-// What is printed of the number that packs a spelling is the spelling.
-pub fn spellings_are_printed()
-    ensures { (word : List ℕ) → Spelling word → spelling_of (packed word) ≡ word }
-{}
+ghost use Rattle.read_report.specs.Report.{Reports};
 
 // A text has no two reports.
 pub fn reports_are_unique()

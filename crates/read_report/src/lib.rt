@@ -5,5 +5,5 @@ mod laws;
 mod lines;
 mod report;
 
-pub use laws::{reports_are_unique, spellings_are_printed};
+pub use laws::reports_are_unique;
 pub use report::report_on;

@@ -1,31 +1,13 @@
 // The lines of a report: one for each place, or one for a refusal.
-ghost use Rattle.std.specs.Prelude.{◌≡◌, ◌++◌, IfOk, OnOk, Some, take, ◌≤◌, length};
-ghost use Rattle.std.specs.List.{prefix_len};
+ghost use Rattle.std.specs.Prelude.{◌≡◌, ◌++◌, IfOk, OnOk, Some, take};
 ghost use Rattle.read_report.specs.Lent.{lists_of};
-ghost use Rattle.read_report.specs.Report.{is_filled, spelling_of, word_text, symbol_text, kind_of, kind_text, spelled, line_of, lines_of, report_of};
+ghost use Rattle.read_report.specs.Report.{word_text, leaf_text, kind_of, kind_text, spelled, line_of, lines_of, report_of};
 
 use leaves::Symbol;
 use notation::Counts;
-use recipe::{Kind, Place, Refusal};
+use recipe::{Kind, PackedSpelling, Place, Refusal};
 use std::alloc::{AllocError, Global};
 use std::fmt;
-
-// Where the first zero stands, or the length.
-fn first_zero(bytes: &[u8]) -> usize
-    ensures value { result ≡ prefix_len is_filled bytes.now }
-    ensures within { result ≤ length bytes.now }
-{
-    bytes.iter().take_while(|byte| **byte != 0).count()
-}
-
-// Adds the spelling that the number packs.
-#[tactic(auto, unfolding(crate::specs::Report::spelling_of))]
-fn add_spelling(out: &mut Vec<u8>, packed: u64) -> Result<(), AllocError>
-    ensures { OnOk result (out.new.items ≡ out.old.items ++ spelling_of packed) }
-{
-    let bytes = packed.to_be_bytes();
-    out.extend_from_slice(&bytes[..first_zero(&bytes)])
-}
 
 // Adds a name or a hole of a list, if the list has it.
 fn add_word(out: &mut Vec<u8>, word: Option<u64>) -> Result<(), AllocError>
@@ -33,21 +15,22 @@ fn add_word(out: &mut Vec<u8>, word: Option<u64>) -> Result<(), AllocError>
 {
     match word {
         Some(packed) => {
-            out.extend_from_slice(b" ")?;
-            add_spelling(out, packed)
+            let heap = *out.allocator();
+            let spelling = PackedSpelling(packed);
+            out.extend_from_slice(format!(in heap; " {spelling}")?.as_bytes())
         }
         None => Ok(()),
     }
 }
 
 // Adds a leaf of a list, if the list has it.
-fn add_symbol(out: &mut Vec<u8>, symbol: Option<Symbol>) -> Result<(), AllocError>
-    ensures { OnOk result (out.new.items ≡ out.old.items ++ symbol_text symbol) }
+fn add_leaf(out: &mut Vec<u8>, leaf: Option<Symbol>) -> Result<(), AllocError>
+    ensures { OnOk result (out.new.items ≡ out.old.items ++ leaf_text leaf) }
 {
-    match symbol {
+    match leaf {
         Some(symbol) => {
-            out.extend_from_slice(b" '")?;
-            add_spelling(out, symbol.packed)
+            let heap = *out.allocator();
+            out.extend_from_slice(format!(in heap; " {symbol}")?.as_bytes())
         }
         None => Ok(()),
     }
@@ -105,7 +88,7 @@ impl Lent<'_> {
         ensures { OnOk result (out.new.items ≡ out.old.items ++ spelled (lists_of self.now) number kind) }
     {
         match kind {
-            Some(Kind::Leaf) => add_symbol(out, self.leaves.get(number as usize).copied()),
+            Some(Kind::Leaf) => add_leaf(out, self.leaves.get(number as usize).copied()),
             Some(Kind::Name | Kind::Bind) => add_word(
                 out,
                 self.names.get(number as usize).copied(),

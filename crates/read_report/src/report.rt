@@ -12,11 +12,7 @@ use std::alloc::{AllocError, Global};
 pub fn report_on(heap: Global, text: &[u8]) -> Result<Vec<u8>, AllocError>
     ensures { IfOk result (λ v. Reports text.now v.items) }
 {
-    let mut places = [Place {
-        kind: 0,
-        a: 0,
-        b: 0,
-    }; 64];
+    let mut places = [Place::nil(); 64];
     let mut names = [0; 16];
     let mut holes = [0; 64];
     let mut leaves = [Symbol { packed: 0 }; 64];

@@ -16,6 +16,7 @@ pub mod Numbers
 pub mod OneAnswer
 pub mod Opened
 pub mod PackedOnce
+pub mod Printed
 pub mod PromiseKept
 pub mod Sameness
 pub mod Shapes

@@ -32,7 +32,7 @@ padded_long : (bs : List ℕ) → length bs ≤ 8 → length (padded bs) ≡ 8
 padded_long bs h = simp (length-append, length-drop, length-replicate) (omega arith)
 
 -- the bytes of the number of a spelling are those of the spelling, and zeros
-bytes_of : (bs : List ℕ) (n : ℕ) → Spelling bs → packed bs ≡ n → to_be_bytes w64 n ≡ padded bs
+pub bytes_of : (bs : List ℕ) (n : ℕ) → Spelling bs → packed bs ≡ n → to_be_bytes w64 n ≡ padded bs
 unfolding packed
 bytes_of bs n s e =
     let at = padded_at bs 8 in

@@ -12,6 +12,7 @@ mod numbering;
 mod packing;
 mod places;
 mod refusals;
+mod spelling;
 mod table_laws;
 
 pub use alike::alike_is_exact;
@@ -29,4 +30,5 @@ pub use numbering::leaf_number;
 pub use packing::pack;
 pub use places::{Kind, Place, UnknownKind};
 pub use refusals::Refusal;
+pub use spelling::{PackedSpelling, spellings_are_printed};
 pub use table_laws::tables_are_read_by_parts;

@@ -16,6 +16,72 @@ pub struct Place {
 }
 
 impl Place {
+    /// Nil.
+    pub const fn nil() -> Place
+        ensures { result ≡ record { kind = 0; a = 0; b = 0 } }
+    {
+        Place {
+            kind: Kind::Nil as u32,
+            a: 0,
+            b: 0,
+        }
+    }
+
+    /// The leaf that has this index in the list of leaves.
+    pub const fn leaf(index: u32) -> Place
+        ensures { result ≡ record { kind = 1; a = index; b = 0 } }
+    {
+        Place {
+            kind: Kind::Leaf as u32,
+            a: index,
+            b: 0,
+        }
+    }
+
+    /// The name that has this number.
+    pub const fn name(number: u32) -> Place
+        ensures { result ≡ record { kind = 2; a = number; b = 0 } }
+    {
+        Place {
+            kind: Kind::Name as u32,
+            a: number,
+            b: 0,
+        }
+    }
+
+    /// The hole that has this number.
+    pub const fn hole(number: u32) -> Place
+        ensures { result ≡ record { kind = 3; a = number; b = 0 } }
+    {
+        Place {
+            kind: Kind::Hole as u32,
+            a: number,
+            b: 0,
+        }
+    }
+
+    /// A bind of the name that has this number, over the place of its inside.
+    pub const fn bind(name: u32, inside: u32) -> Place
+        ensures { result ≡ record { kind = 4; a = name; b = inside } }
+    {
+        Place {
+            kind: Kind::Bind as u32,
+            a: name,
+            b: inside,
+        }
+    }
+
+    /// A call, with the places of its two parts.
+    pub const fn call(left: u32, right: u32) -> Place
+        ensures { result ≡ record { kind = 5; a = left; b = right } }
+    {
+        Place {
+            kind: Kind::Call as u32,
+            a: left,
+            b: right,
+        }
+    }
+
     // Whether some part of the place passes the test.
     pub(crate) fn any_part<F: Fn(u32) -> bool>(&self, test: F) -> bool
         requires { F.IsAlwaysCallable test }
