@@ -1,5 +1,5 @@
-// The numbers of kinds, and what is said of a number that is none.
-use recipe::{Kind, UnknownKind};
+// The numbers of kinds, what is said of a number that is none, and the records of places.
+use recipe::{Kind, Place, UnknownKind};
 use std::test::Fail;
 
 const KINDS: [(u32, Result<Kind, UnknownKind>); 8] = [
@@ -28,4 +28,19 @@ fn an_unknown_kind_is_named(rt: HostRuntime) -> Result<(), Fail> {
     let printed = format!(in rt.alloc(); "{}", UnknownKind(6))?;
     assert_eq!(rt; printed.as_str(), "no kind has the number 6");
     Ok(())
+}
+
+#[test]
+fn each_place_has_its_record(rt: HostRuntime) {
+    let places = [
+        (Place::nil(), (0, 0, 0)),
+        (Place::leaf(7), (1, 7, 0)),
+        (Place::name(7), (2, 7, 0)),
+        (Place::hole(7), (3, 7, 0)),
+        (Place::bind(7, 8), (4, 7, 8)),
+        (Place::call(7, 8), (5, 7, 8)),
+    ];
+    for (place, (kind, a, b)) in places {
+        assert_eq!(rt; place, Place { kind, a, b });
+    }
 }

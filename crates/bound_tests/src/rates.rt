@@ -1,6 +1,7 @@
 // Rates: which words spell them, when two are the same, and their numbers.
 use leaves::Rate;
 use recipe::{Leaf, leaf_number};
+use std::test::Fail;
 
 // Each word with the numerator and the denominator that it spells, if it spells a rate.
 const RATES: [(&str, Option<(u32, u32)>); 56] = [
@@ -136,4 +137,24 @@ fn rates_are_numbered_by_the_first_same(rt: HostRuntime) {
 #[test]
 fn the_longest_word_has_21_bytes(rt: HostRuntime) {
     assert_eq!(rt; (<Rate as Leaf>::LONGEST, Rate::longest_word()), (21, 21));
+}
+
+// Numerator and denominator, and how the rate is printed.
+const PRINTED: [((u32, u32), &str); 6] = [
+    ((24, 1), "24/1"),
+    ((150, 100), "150/100"),
+    ((0, 10), "0/10"),
+    ((5, 0), "5/0"),
+    ((2_147_483_647, 2_147_483_647), "2147483647/2147483647"),
+    ((u32::MAX, u32::MAX), "4294967295/4294967295"),
+];
+
+#[test]
+fn rates_are_printed_as_fractions(rt: HostRuntime) -> Result<(), Fail> {
+    for (numbers, expected) in PRINTED {
+        let rate = rate(numbers);
+        let printed = format!(in rt.alloc(); "{rate}")?;
+        assert_eq!(rt; printed.as_str(), expected);
+    }
+    Ok(())
 }

@@ -65,3 +65,14 @@ fn symbols_are_numbered_by_the_first_same(rt: HostRuntime) -> Result<(), Fail> {
 fn the_longest_word_has_9_bytes(rt: HostRuntime) {
     assert_eq!(rt; (<Symbol as Leaf>::LONGEST, Symbol::longest_word()), (9, 9));
 }
+
+#[test]
+fn symbols_are_printed_as_spelled(rt: HostRuntime) -> Result<(), Fail> {
+    for (word, _) in SYMBOLS {
+        if let Some(symbol) = Symbol::read(word.as_bytes()) {
+            let printed = format!(in rt.alloc(); "{symbol}")?;
+            assert_eq!(rt; printed.as_str(), word);
+        }
+    }
+    Ok(())
+}
