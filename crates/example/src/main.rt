@@ -9,12 +9,7 @@ use sheet::open;
 const TEXT: &str = "(lambda (a) X) (lambda (b) b)";
 
 fn main(rt: HostRuntime) -> anyhow::Result<()> {
-    let nil = Place {
-        kind: 0,
-        a: 0,
-        b: 0,
-    };
-    let mut places = vec![in rt.alloc(); nil; 64]?;
+    let mut places = vec![in rt.alloc(); Place::nil(); 64]?;
     let (mut names, mut holes) = ([0; 16], [0; 64]);
     let mut leaves: [Symbol; 0] = [];
     let counts = read_recipes(

@@ -18,14 +18,14 @@ pub fn longest_words_are_read()
     ensures rate { is_some (rate_of longest_rate) ≡ true }
 {}
 
-/// A symbol that is read prints as the word that it was read from, as `'lift`. A symbol whose number packs no name, as 0, prints as
-/// a word that is not read.
+/// A symbol that is read prints as the word that it was read from, as `'lift`. The symbol of the number 0 prints as a lone
+/// apostrophe, which is not read.
 pub fn symbols_are_printed()
     ensures { (word : List ℕ) (x : Symbol) → symbol_of word ≡ Some x → symbol_text x ≡ word }
 {}
 
-/// A rate is read back from what it prints as, with the same two numbers, exactly where both are within the limits of reading: 24/1
-/// prints as `24/1`, and 5/0 as `5/0`, which is not read.
+/// What a rate prints as is read back as that rate, with the same two numbers, exactly where both are within the limits of reading:
+/// 24 over 1 prints as `24/1`, and 5 over 0 as `5/0`, which is not read.
 pub fn rates_are_printed()
     ensures { (x : Rate) → (rate_of (rate_text x) ≡ Some x) ↔ Readable x }
 {}

@@ -6,11 +6,7 @@ use specimens::{Specimen, specimens};
 
 // Whether the text of an example is read as its table, with its leaves and its names.
 fn is_read_as_its_table(specimen: Specimen) -> bool {
-    let mut places = [Place {
-        kind: 0,
-        a: 0,
-        b: 0,
-    }; 16];
+    let mut places = [Place::nil(); 16];
     let mut names = [0; 8];
     let mut holes = [0; 8];
     let mut leaves = [Rate {

@@ -112,12 +112,7 @@ type Answer = Result<Sizes, (u32, usize)>;
 
 // How a text is read into lists of these sizes.
 fn answer(heap: Global, text: &[u8], sizes: Sizes) -> Result<Answer, AllocError> {
-    let nil = Place {
-        kind: 0,
-        a: 0,
-        b: 0,
-    };
-    let mut places: Vec<Place> = iter::repeat_n(nil, sizes.0).collect(heap)?;
+    let mut places: Vec<Place> = iter::repeat_n(Place::nil(), sizes.0).collect(heap)?;
     let mut names: Vec<u64> = iter::repeat_n(0, sizes.1).collect(heap)?;
     let mut holes: Vec<u64> = iter::repeat_n(0, sizes.2).collect(heap)?;
     let mut leaves: Vec<Symbol> = iter::repeat_n(Symbol { packed: 0 }, sizes.3).collect(heap)?;

@@ -12,14 +12,15 @@ struct Lists {
     leaves: [Symbol; 3],
 }
 
-const fn place(kind: u32, a: u32, b: u32) -> Place {
-    Place { kind, a, b }
-}
-
 // What stands in the lists before.
 fn before() -> Lists {
+    let unknown = Place {
+        kind: 9,
+        a: 9,
+        b: 9,
+    };
     Lists {
-        places: [place(9, 9, 9); 6],
+        places: [unknown; 6],
         names: [9; 3],
         holes: [9; 3],
         leaves: [Symbol { packed: 9 }; 3],
@@ -47,19 +48,18 @@ fn a_text_that_is_read_fills_the_lists(rt: HostRuntime) {
         holes: 1,
         leaves: 1,
     };
-    let nil = place(0, 0, 0);
     let before = Symbol { packed: 9 };
     let lift = Symbol {
         packed: 0x6c69_6674_0000_0000,
     };
     let lists = Lists {
         places: [
-            place(4, 0, 1),
-            place(5, 2, 3),
-            place(3, 0, 0),
-            place(1, 0, 0),
-            nil,
-            nil,
+            Place::bind(0, 1),
+            Place::call(2, 3),
+            Place::hole(0),
+            Place::leaf(0),
+            Place::nil(),
+            Place::nil(),
         ],
         names: [0x6100_0000_0000_0000, 0, 0],
         holes: [0x5832_0000_0000_0000, 0, 0],
@@ -83,7 +83,7 @@ fn an_empty_text_leaves_zeros_and_the_leaves(rt: HostRuntime) {
 fn zeroed() -> Lists {
     let leaves = before().leaves;
     Lists {
-        places: [place(0, 0, 0); 6],
+        places: [Place::nil(); 6],
         names: [0; 3],
         holes: [0; 3],
         leaves,

@@ -14,11 +14,7 @@ type Answer = Result<(usize, usize), (u32, usize)>;
 
 // How a text is read into lists of 8 entries, and the first two of the leaves after that.
 fn read(text: &[u8]) -> (Answer, [Numbers; 2]) {
-    let mut places = [Place {
-        kind: 0,
-        a: 0,
-        b: 0,
-    }; 8];
+    let mut places = [Place::nil(); 8];
     let mut names = [0; 8];
     let mut holes = [0; 8];
     let mut leaves = [Rate {
