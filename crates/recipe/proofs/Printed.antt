@@ -38,7 +38,7 @@ comes_back w s =
 pub as_text : (n : ℕ) (bs : List ℕ) → unpacked n ≡ bs → IsUtf8 bs → spelling_text n ≡ bs
 as_text n bs e text = cond-true _ _ _ (ap is_utf8 e ∙ is_utf8-from_IsUtf8 bs text) ∙ e
 
-pub as_number : (n : ℕ) (bs : List ℕ) → unpacked n ≡ bs → (IsUtf8 bs → ⊥) → spelling_text n ≡ codes "0x" ++ digits 16 false n
+pub as_number : (n : ℕ) (bs : List ℕ) → unpacked n ≡ bs → ¬ (IsUtf8 bs) → spelling_text n ≡ codes "0x" ++ digits 16 false n
 as_number n bs e none =
     cond-false _ _ _ (ap is_utf8 e ∙ false_from_ne_true _ (λ yes. none (IsUtf8-from_is_utf8 bs yes)))
 

@@ -1,6 +1,7 @@
 // Spellings that are packed into numbers, printed.
 ghost use Rattle.std.specs.Prelude.{◌≡◌, ◌≤◌, ℕ, List, length, Some};
-ghost use Rattle.std.specs.List.{prefix_len};
+ghost use Rattle.std.specs.Int.{w64, to_be_bytes};
+ghost use Rattle.std.specs.List.{prefix_len, take_while};
 ghost use Rattle.std.specs.Str.{IsUtf8};
 ghost use Rattle.recipe.specs.Packing.{Spelling, is_filled, packed, spelling_text, unpacked};
 
@@ -11,6 +12,13 @@ use std::fmt;
 #[derive(Clone, Copy, Debug, PartialEq, Eq)]
 pub struct PackedSpelling(pub u64);
 
+// One number as eight bytes, the highest first.
+fn parted(packed: u64) -> [u8; 8]
+    ensures { result ≡ to_be_bytes w64 packed }
+{
+    packed.to_be_bytes()
+}
+
 // Where the first zero stands, or the length.
 fn first_zero(bytes: &[u8]) -> usize
     ensures value { result ≡ prefix_len is_filled bytes.now }
@@ -19,13 +27,20 @@ fn first_zero(bytes: &[u8]) -> usize
     bytes.iter().take_while(|byte| **byte != 0).count()
 }
 
+// The bytes before the first zero.
+fn filled(bytes: &[u8]) -> &[u8]
+    ensures { result.now ≡ take_while is_filled bytes.now }
+{
+    &bytes[..first_zero(bytes)]
+}
+
 impl fmt::Display for PackedSpelling {
     ghost output = { λ spelling. Some (spelling_text spelling.0) };
 
-    #[tactic(auto, unfolding(crate::specs::Packing::unpacked))]
+    #[tactic(auto, unfolding(crate::specs::Packing::unpacked), using(crate::proofs::Printed::as_text))]
     fn fmt<W: fmt::Write>(&self, f: &mut fmt::Formatter<W>) -> fmt::Result {
-        let bytes = self.0.to_be_bytes();
-        match str::from_utf8(&bytes[..first_zero(&bytes)]) {
+        let bytes = parted(self.0);
+        match str::from_utf8(filled(&bytes)) {
             Ok(text) => f.write_str(text),
             Err(_) => write!(f, "0x{:x}", self.0),
         }
