@@ -7,7 +7,7 @@ ghost use Rattle.recipe.specs.Marks.{PartsDecide, parts_of};
 use std::error::Error;
 use std::fmt;
 
-// The record of one place: its kind, and two numbers that mean what the kind says.
+/// The record of one place: its kind, and two numbers that mean what the kind says. docs/RULES.md, "Tables".
 #[derive(Clone, Copy, Debug, PartialEq, Eq)]
 pub struct Place {
     pub kind: u32,
