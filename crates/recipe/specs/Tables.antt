@@ -1,6 +1,6 @@
 -- Tables of places as the rules see them: what stands at a place, its parts, its holder and its scope. Assumes nothing. (docs/RULES.md, "Tables")
-use Rattle.std.specs.Prelude.{ℕ, zero, suc, ◌<◌, cond, List, [], ◌∷◌, length, Some, None, Option, ◌==◌, ◌≢◌, slice_index_or}
-use Rattle.std.specs.List.{slice_get}
+use Rattle.std.specs.Prelude.{ℕ, zero, suc, ◌<◌, Bool, nat_eq, cond, List, [], ◌∷◌, length, Some, None, Option, ◌==◌, ◌≢◌, slice_index_or}
+use Rattle.std.specs.List.{list_any, slice_get}
 use Rattle.recipe.specs.declared.places.Place.{Place}
 use Rattle.recipe.specs.Common.{first_below, In}
 use Rattle.recipe.specs.Recipes.{Part, left, right, inside}
@@ -42,6 +42,10 @@ form_by one a b kind =
 -- the form of a record over a list of leaves
 abbrev pub form_of : {L : Type 0} → List L → Place → Form L
 form_of ls x = form_by (slice_get ls x.a) x.a x.b x.kind
+
+-- whether a record has the place p as a part
+abbrev pub has_part : ℕ → Place → Bool
+has_part p x = list_any (λ y. nat_eq y.at p) (parts (form_of {L = Unit {0}} [] x))
 
 -- the form at a place, or nil past the end
 abbrev pub form_at : {L : Type 0} → List L → Option Place → Form L

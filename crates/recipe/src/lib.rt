@@ -30,5 +30,5 @@ pub use numbering::leaf_number;
 pub use packing::pack;
 pub use places::{Kind, Place, UnknownKind};
 pub use refusals::Refusal;
-pub use spelling::{PackedSpelling, spellings_are_printed};
+pub use spelling::{PackedSpelling, before_zero, spellings_are_printed};
 pub use table_laws::tables_are_read_by_parts;

@@ -3,6 +3,7 @@ ghost use Rattle.std.specs.Prelude.{◌≡◌, Some};
 ghost use Rattle.recipe.specs.Checking.{twice};
 ghost use Rattle.recipe.specs.Kinds.{Decodes, unknown_kind_text};
 ghost use Rattle.recipe.specs.Marks.{PartsDecide, parts_of};
+ghost use Rattle.recipe.specs.Tables.{has_part};
 
 use std::error::Error;
 use std::fmt;
@@ -92,6 +93,13 @@ impl Place {
             Ok(Kind::Call) => test(self.a) || test(self.b),
             _ => false,
         }
+    }
+
+    /// Whether a place is a part of what stands here. docs/RULES.md, "Tables".
+    pub fn has_part(&self, place: usize) -> bool
+        ensures { result ≡ has_part place self.now }
+    {
+        self.any_part(|part| part as usize == place)
     }
 
     // Whether both parts of the place are one place.

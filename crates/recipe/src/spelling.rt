@@ -27,8 +27,8 @@ fn first_zero(bytes: &[u8]) -> usize
     bytes.iter().take_while(|byte| **byte != 0).count()
 }
 
-// The bytes before the first zero.
-fn filled(bytes: &[u8]) -> &[u8]
+/// The bytes before the first zero: of the eight bytes of a packed spelling, the spelling. docs/RULES.md, "Packing".
+pub fn before_zero(bytes: &[u8]) -> &[u8]
     ensures { result.now ≡ take_while is_filled bytes.now }
 {
     &bytes[..first_zero(bytes)]
@@ -40,7 +40,7 @@ impl fmt::Display for PackedSpelling {
     #[tactic(auto, unfolding(crate::specs::Packing::unpacked), using(crate::proofs::Printed::as_text))]
     fn fmt<W: fmt::Write>(&self, f: &mut fmt::Formatter<W>) -> fmt::Result {
         let bytes = parted(self.0);
-        match str::from_utf8(filled(&bytes)) {
+        match str::from_utf8(before_zero(&bytes)) {
             Ok(text) => f.write_str(text),
             Err(_) => write!(f, "0x{:x}", self.0),
         }

@@ -1,0 +1,5 @@
+pub mod Adding
+pub mod RootsCollected
+pub mod ListedMore
+pub mod RootsTold
+pub mod TableListed
