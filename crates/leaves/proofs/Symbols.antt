@@ -22,7 +22,7 @@ name_bytes (b ∷ bs) e zero h = grind (arith, nat_tests)
 name_bytes (b ∷ bs) e (suc k) h =
     name_byte_small (get_or bs k 0) (AllPass-from_list_all name_byte bs (grind (arith, nat_tests)) k 0 (omega arith))
 
-name_spelling : (bs : List ℕ) → is_name bs ≡ true → Spelling bs
+pub name_spelling : (bs : List ℕ) → is_name bs ≡ true → Spelling bs
 name_spelling [] e = grind (arith, nat_tests)
 name_spelling (b ∷ bs) e =
     record { short = grind (arith, nat_tests); bytes = λ k h. let byte = name_bytes (b ∷ bs) e k h in (byte.0, omega (arith, byte.1)) }
@@ -34,6 +34,10 @@ name_ascii bs e k =
       | inl h ↦ (name_bytes bs e k h).1
       | inr h ↦ omega (arith, get_or_past bs k 0 h)
     ]
+
+-- a word that spells a symbol is an apostrophe and the name that the symbol packs
+pub spelled : (b : ℕ) (name : List ℕ) (x : Symbol) → symbol_of (b ∷ name) ≡ Some x → (b ≡ 39) × Spelling name × (packed name ≡ x.packed)
+spelled b name x e = (grind (arith, nat_tests), name_spelling name (grind (arith, nat_tests)), grind (arith, nat_tests))
 
 -- one word spells a symbol
 pub symbol_once : (v w : List ℕ) (x : Symbol) → symbol_of v ≡ Some x → symbol_of w ≡ Some x → v ≡ w

@@ -1,9 +1,9 @@
 // Rates: fractions of whole numbers, as frame rates are given.
-ghost use Rattle.std.specs.Prelude.{◌≡◌, ◌≤◌, Some};
-ghost use Rattle.std.specs.Char.{is_ascii_digit};
-ghost use Rattle.std.specs.List.{list_all, prefix_len};
+ghost use Rattle.std.specs.Prelude.{◌≡◌, ◌+◌, ◌*◌, ◌^◌, ◌<◌, ◌≤◌, cond, Some, None};
+ghost use Rattle.std.specs.Char.{is_ascii_digit, digit_value};
+ghost use Rattle.std.specs.List.{prefix_len};
 ghost use Rattle.leaves.specs.Printing.{rate_text};
-ghost use Rattle.leaves.specs.RateReading.{is_numeral, numeral_of, ratio as ratio_of, whole_rate, fraction_rate, decimal_rate, rate_after, rate_of};
+ghost use Rattle.leaves.specs.RateReading.{numeral_of, ratio as ratio_of, whole_rate, fraction_rate, decimal_rate, rate_after, rate_of};
 ghost use Rattle.leaves.specs.Rates.{SpelledBy, same_rate};
 ghost use Rattle.leaves.specs.CrossProducts.{rate_reflexive, rate_symmetric, rate_transitive};
 ghost use Rattle.leaves.specs.RatesLemmas.{rate_bounded};
@@ -26,30 +26,28 @@ fn leading_digits(word: &[u8]) -> usize
     word.iter().take_while(|byte| byte.is_ascii_digit()).count()
 }
 
-// Whether every byte is a decimal digit.
-fn are_digits(bytes: &[u8]) -> bool
-    ensures { result ≡ list_all is_ascii_digit bytes.now }
+// The number that the digits so far write with one more after them, where the byte is a digit.
+fn with_digit(value: u64, digit: u8) -> Option<u64>
+    requires { value < 10 ^ 17 }
+    ensures { result ≡ cond (is_ascii_digit digit) (Some (value * 10 + digit_value digit)) None }
 {
-    bytes.iter().all(u8::is_ascii_digit)
-}
-
-// Whether there are one to `most` digits, and each is a decimal one.
-fn is_numeral(digits: &[u8], most: usize) -> bool
-    ensures { result ≡ is_numeral most digits.now }
-{
-    (1..=most).contains(&digits.len()) && are_digits(digits)
+    if !digit.is_ascii_digit() {
+        return None;
+    }
+    Some(value * 10 + u64::from(digit - b'0'))
 }
 
 // The number that one to `most` decimal digits write; 18 digits fit in 64 bits.
-#[tactic(auto, using(crate::proofs::Digits::numeral_text, crate::proofs::Digits::numeral_parsed))]
 fn numeral(digits: &[u8], most: usize) -> Option<u64>
     requires { most ≤ 18 }
     ensures { result ≡ numeral_of most digits.now }
 {
-    if !is_numeral(digits, most) {
+    if !(1..=most).contains(&digits.len()) {
         return None;
     }
-    str::from_utf8(digits).ok()?.parse().ok()
+    digits
+        .iter()
+        .try_fold(0, |value, digit| with_digit(value, *digit))
 }
 
 // The largest numerator and denominator of a rate that is read.

@@ -1,17 +1,14 @@
--- What is written of words that are listed with their numbers. Assumes nothing. (docs/RULES.md, "Reports on rates")
+-- What is counted of words that are listed with their numbers. Assumes nothing. (docs/RULES.md, "Reports on rates")
 use Rattle.std.specs.Prelude.{ℕ, List, count_by, ◌==◌}
-use Rattle.std.specs.List.{filter_map, flat_map, enumerate_from}
-use Rattle.rate_report.specs.declared.report.Entry.{Entry}
-use Rattle.rate_report.specs.Report.{line_with}
+use Rattle.std.specs.List.{filter_map, enumerate_from}
+use Rattle.leaves.specs.RateReading.{rate_of}
+use Rattle.leaves.specs.declared.rate.Rate.{Rate}
+use Rattle.rate_report.specs.Report.{number_in}
 
--- the line of an entry with its index
-abbrev pub entry_line : ℕ × Entry → List ℕ
-entry_line (i, e) = line_with e.number i e.word.now
+-- the numbers that the rates of words have among some rates, in order
+abbrev pub numbers_of : List Rate → List (List ℕ) → List ℕ
+numbers_of rates = filter_map (λ w. number_in rates (rate_of w))
 
--- the lines of entries, the first with the index i
-abbrev pub entry_lines : ℕ → List Entry → List ℕ
-entry_lines i es = flat_map entry_line (enumerate_from i es)
-
--- how many of the numbers are their own indices among the numbers
-abbrev pub own_numbers : List Entry → ℕ
-own_numbers es = count_by (λ p. p.1 == p.0) (enumerate_from 0 (filter_map (λ e. e.number) es))
+-- how many of the numbers are their own indices
+abbrev pub own_numbers : List ℕ → ℕ
+own_numbers ns = count_by (λ p. p.1 == p.0) (enumerate_from 0 ns)

@@ -1,26 +1,26 @@
 // The report: a line for each word, and a summary.
-ghost use Rattle.std.specs.Prelude.{◌≡◌, ◌++◌, map, IfOk, OnOk, Some, string_bytes};
-ghost use Rattle.std.specs.List.{filter_map};
+ghost use Rattle.std.specs.Prelude.{◌≡◌, ◌++◌, length, IfOk, OnOk, Some, string_bytes};
 ghost use Rattle.leaves.specs.RateReading.{rate_of};
-ghost use Rattle.rate_report.specs.Entries.{entry_lines, own_numbers};
-ghost use Rattle.rate_report.specs.Report.{number_in, verdict, line_with, warning, summary_with, Reports};
+ghost use Rattle.rate_report.specs.Entries.{numbers_of, own_numbers};
+ghost use Rattle.rate_report.specs.Report.{rates_of, number_in, verdict, line_with, lines, warning, summary_with, Reports};
+ghost use Rattle.rate_report.specs.Words.{words};
 
+use crate::counts::Counts;
 use crate::limit::kept;
-use crate::words::words;
+use crate::words::Words;
 use leaves::Rate;
 use recipe::{Leaf, leaf_number};
 use std::alloc::{AllocError, Global};
-use std::fmt;
+use std::fmt::{self, Write};
 
 // The most bytes of an input that are listed.
 pub const LIMIT: usize = 65_536;
 
-// The rates that the words spell, in order.
-fn rates_of(heap: Global, words: &[&[u8]]) -> Result<Vec<Rate>, AllocError>
-    ensures { IfOk result (λ v. v.items ≡ filter_map (λ w. rate_of w.now) words.now) }
+// The rates that the words of the text spell, in order.
+fn rates_of(heap: Global, text: &[u8]) -> Result<Vec<Rate>, AllocError>
+    ensures { IfOk result (λ v. v.items ≡ rates_of (words text.now)) }
 {
-    words
-        .iter()
+    Words::new(text)
         .filter_map(|word| Rate::read(word))
         .collect(heap)
 }
@@ -55,59 +55,43 @@ struct Entry<'t> {
 }
 
 impl<'t> Entry<'t> {
-    // Adds the line of the word that has the index.
-    fn add_line(&self, out: &mut Vec<u8>, index: usize) -> Result<(), AllocError>
+    // Adds the line of the word that has the index. Its text is put together in `line`, whatever that held before.
+    fn add_line(&self, out: &mut Vec<u8>, line: &mut String, index: usize) -> Result<(), AllocError>
         ensures { OnOk result
             (out.new.items ≡ out.old.items ++ line_with self.now.number index self.now.word.now) }
     {
-        let heap = *out.allocator();
         let verdict = Verdict(self.number);
-        out.extend_from_slice(format!(in heap; "{index} ")?.as_bytes())?;
+        line.clear();
+        write!(line, "{index} ")?;
+        out.extend_from_slice(line.as_bytes())?;
         out.extend_from_slice(self.word)?;
-        out.extend_from_slice(format!(in heap; "{verdict}\n")?.as_bytes())
+        line.clear();
+        write!(line, "{verdict}\n")?;
+        out.extend_from_slice(line.as_bytes())
     }
 }
 
-// Each word with its number.
-fn entries<'t>(
-    heap: Global,
-    words: &[&'t [u8]],
-    rates: &[Rate],
-) -> Result<Vec<Entry<'t>>, AllocError>
-    ensures words { IfOk result (λ v. map (λ e. e.word.now) v.items ≡ map (λ w. w.now) words.now) }
-    ensures numbers { IfOk result
-        (λ v. map (λ e. e.number) v.items ≡ map (λ w. number_in rates.now (rate_of w.now)) words.now) }
-{
-    words
-        .iter()
-        .map(|word| Entry {
-            word: *word,
-            number: number_of(rates, word),
-        })
-        .collect(heap)
+// The lines of words, one after the other, and what is counted of them.
+#[derive(Drop)]
+struct Listed {
+    lines: Vec<u8>,
+    counts: Counts,
 }
 
-// The lines of the entries, one after the other.
-fn lines(heap: Global, entries: &[Entry]) -> Result<Vec<u8>, AllocError>
-    ensures { IfOk result (λ v. v.items ≡ entry_lines 0 entries.now) }
+// The lines of the words of the text, over the rates that it spells.
+fn lines(heap: Global, text: &[u8], rates: &[Rate]) -> Result<Listed, AllocError>
+    ensures lines { IfOk result (λ l. l.lines.items ≡ lines rates.now 0 (words text.now)) }
+    ensures words { IfOk result (λ l. l.counts.words ≡ length (words text.now)) }
+    ensures different { IfOk result (λ l. l.counts.different ≡ own_numbers (numbers_of rates.now (words text.now))) }
 {
-    let mut out = Vec::new(heap);
-    for (index, entry) in entries.iter().enumerate() {
-        entry.add_line(&mut out, index)?;
+    let (mut out, mut line) = (Vec::new(heap), String::new(heap));
+    let mut counts = Counts::new();
+    for word in Words::new(text) {
+        let number = number_of(rates, word);
+        Entry { word, number }.add_line(&mut out, &mut line, counts.words)?;
+        counts.add(number);
     }
-    Ok(out)
-}
-
-// How many different rates there are: those whose number is their own index.
-fn different(entries: &[Entry]) -> usize
-    ensures { result ≡ own_numbers entries.now }
-{
-    entries
-        .iter()
-        .filter_map(|entry| entry.number)
-        .enumerate()
-        .filter(|(index, number)| number == index)
-        .count()
+    Ok(Listed { lines: out, counts })
 }
 
 // What is said of an input above the limit.
@@ -131,13 +115,15 @@ fn summary(heap: Global, words: usize, rates: usize, different: usize) -> Result
 pub fn report_on(heap: Global, input: &[u8]) -> Result<Vec<u8>, AllocError>
     ensures { IfOk result (λ v. Reports 65536 input.now v.items) }
 {
-    let words = words(heap, kept(input, LIMIT))?;
-    let rates = rates_of(heap, &words)?;
-    let entries = entries(heap, &words, &rates)?;
-    let mut out = lines(heap, &entries)?;
+    let text = kept(input, LIMIT);
+    let rates = rates_of(heap, text)?;
+    let Listed {
+        lines: mut out,
+        counts,
+    } = lines(heap, text, &rates)?;
     let warning = warning(heap, input)?;
     out.extend_from_slice(warning.as_bytes())?;
-    let summary = summary(heap, words.len(), rates.len(), different(&entries))?;
+    let summary = summary(heap, counts.words, rates.len(), counts.different)?;
     out.extend_from_slice(summary.as_bytes())?;
     Ok(out)
 }

@@ -1,11 +1,23 @@
 -- A packed spelling gives its bytes back: no two spellings have one number. Assumes nothing.
-use Rattle.std.proofs.Common.{w64, ◌≤◌, ap, ◌≡◌, ℕ, ◌+◌, ◌-◌, ◌<◌, List, ◌++◌, length, get_or, drop, replicate, sym, refl, ◌∙◌, subst, inl, inr, arith}
+use Rattle.std.proofs.Common.{w64, ◌≤◌, ap, ◌≡◌, ℕ, zero, suc, ◌+◌, ◌-◌, ◌<◌, List, ◌++◌, length, get_or, drop, replicate, sym, refl, ◌∙◌, subst, inl, inr, arith}
 use Rattle.std.proofs.lemmas.List.{length-append, length-drop, length-replicate, ext_get_or, get_or_past, get_or_append_left, get_or-append_right, get_or-drop}
 use Rattle.std.proofs.lemmas.Bool.{cases_lt, cases_order}
 use Rattle.std.proofs.lemmas.Nat.{be_bytes_8}
 use Rattle.std.specs.Int.{to_be_bytes}
 use Rattle.recipe.specs.Packing.{packed, Spelling}
 use Rattle.recipe.proofs.Lists.{replicate_at}
+
+-- what holds at each of the eight places holds below eight
+pub below_eight : (P : ℕ → Type 0) → P 0 → P 1 → P 2 → P 3 → P 4 → P 5 → P 6 → P 7 → (k : ℕ) → k < 8 → P k
+below_eight P a b c d e f g h zero l = a
+below_eight P a b c d e f g h (suc zero) l = b
+below_eight P a b c d e f g h (suc (suc zero)) l = c
+below_eight P a b c d e f g h (suc (suc (suc zero))) l = d
+below_eight P a b c d e f g h (suc (suc (suc (suc zero)))) l = e
+below_eight P a b c d e f g h (suc (suc (suc (suc (suc zero))))) l = f
+below_eight P a b c d e f g h (suc (suc (suc (suc (suc (suc zero)))))) l = g
+below_eight P a b c d e f g h (suc (suc (suc (suc (suc (suc (suc zero))))))) l = h
+below_eight P a b c d e f g h (suc (suc (suc (suc (suc (suc (suc (suc k)))))))) l = absurd (omega arith)
 
 -- a byte of a spelling, or 0 past its end
 small : (a : List ℕ) → Spelling a → (k : ℕ) → get_or a k 0 < 256

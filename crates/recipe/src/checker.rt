@@ -68,18 +68,11 @@ impl Checker {
         place.any_part(|part| self.is_outside(p, part))
     }
 
-    // Whether a place passed so far holds some part of the place.
-    fn has_part_held_before(&self, place: &Place) -> bool
-        ensures { result ≡ list_any (λ x. is_marked self.now.depths x.at) (parts_of place.now) }
-    {
-        place.any_part(|part| self.is_held(part))
-    }
-
     // Whether some part of the place is held already, by a place passed so far or as its other part.
     fn has_held_part(&self, place: &Place) -> bool
         ensures { result ≡ held_among (is_marked self.now.depths) (parts_of place.now) }
     {
-        self.has_part_held_before(place) || place.has_equal_parts()
+        place.any_part(|part| self.is_held(part) || place.has_equal_parts())
     }
 
     // How many binders stand above the place `p`.

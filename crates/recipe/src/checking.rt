@@ -14,9 +14,10 @@ fn above_name(place: &Place) -> usize
     ensures value { result ≡ above_name place.now }
     ensures bound { result ≤ 2 ^ 32 }
 {
-    match Kind::try_from(place.kind) {
-        Ok(Kind::Name | Kind::Bind) => place.a as usize + 1,
-        _ => 0,
+    if place.kind == Kind::Name as u32 || place.kind == Kind::Bind as u32 {
+        place.a as usize + 1
+    } else {
+        0
     }
 }
 
