@@ -55,7 +55,8 @@ struct Entry<'t> {
 }
 
 impl<'t> Entry<'t> {
-    // Adds the line of the word that has the index. Its text is put together in `line`, whatever that held before.
+    // Adds the line of the word that has the index. What stands before and after the word is put together in `line`, whatever
+    // that held before.
     fn add_line(&self, out: &mut Vec<u8>, line: &mut String, index: usize) -> Result<(), AllocError>
         ensures { OnOk result
             (out.new.items ≡ out.old.items ++ line_with self.now.number index self.now.word.now) }
@@ -78,7 +79,7 @@ struct Listed {
     counts: Counts,
 }
 
-// The lines of the words of the text, over the rates that it spells.
+// The lines of the words of the text, with the numbers of their rates among the given ones.
 fn lines(heap: Global, text: &[u8], rates: &[Rate]) -> Result<Listed, AllocError>
     ensures lines { IfOk result (λ l. l.lines.items ≡ lines rates.now 0 (words text.now)) }
     ensures words { IfOk result (λ l. l.counts.words ≡ length (words text.now)) }
